@@ -1,0 +1,2 @@
+-- What is believed of bits.
+pub mod Bits

@@ -1,0 +1,2 @@
+-- What is shown of rules, tables and runs.
+pub mod Valuation
