@@ -1,1 +1,4 @@
--- Laws of bits.
+-- What is shown of bits, once, over the width.
+pub mod Bit
+pub mod Number
+pub mod Words

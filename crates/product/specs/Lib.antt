@@ -1,0 +1,3 @@
+-- The product as it is published, in the order of the paper.
+pub mod Places
+pub mod Product

@@ -1,0 +1,7 @@
+-- What is shown of words and values.
+pub mod Words
+pub mod Operands
+pub mod Values
+pub mod Positions
+pub mod Passes
+pub mod Entries
