@@ -12,3 +12,4 @@ pub mod Sound
 pub mod Complete
 pub mod Published
 pub mod Words
+pub mod Lanes
