@@ -1,12 +1,9 @@
 -- The night update is read, by computation: none of the rows refuses it. Assumes nothing.
-use Prim.Native.Nat.{ℕ}
 use mathlib.Core.Path.{_≡_, refl}
-use Rattle.meaning.specs.Laws.{operands}
 use Rattle.reading.specs.Lowest.{lowest, any, count}
-use Rattle.reading.specs.Parts.{labelOf, flagsOf, fromOf, toOf, nodeOf, operatorFrom, operatorsFrom, temporals, eventualities, places}
+use Rattle.reading.specs.Parts.{labelOf, flagsOf, fromOf, toOf, nodeOf, operatorFrom, operatorsFrom, places}
 use Rattle.reading.specs.Refusals.{lengthAt, at04, partsOf, inSteps, fieldRefusal, outOfRange, lastRefusal, fieldsRefusal, badState, badEnd, above, notAbove, startsNone, unknown, firstLimit, secondLimit, wrongByte, statesRefusal, edgesRefusal, deadEndRefusal, nodesRefusal, temporalsRefusal, partsRefusal, refusal}
 use Rattle.reading.specs.Night.{night}
-use Rattle.reading.specs.declared.Check.{Check}
 use Rattle.reading.specs.declared.Check.the-variants.{Passed}
 
 pub night-passes : refusal night ≡ Passed

@@ -1,31 +1,24 @@
 -- From "not refused" to the named facts of `Admitted`, once for all: passing the fields gives the sizes, passing a walk gives
 -- its test at every number. Assumes nothing.
-use Prim.Native.Nat.{ℕ, zero, suc, _+_, _*_, _-_, _/_, _%_, _^_, _≤_, _<_}
-use mathlib.Core.Path.{_≡_, refl, sym, ap, subst, _∙_}
+use Prim.Native.Nat.{ℕ, suc, _-_, _/_, _^_, _≤_, _<_}
+use mathlib.Core.Path.{_≡_, refl, subst}
 use mathlib.Core.Logic.{_⊎_, inl, inr}
-use mathlib.Core.Bool.{Bool, true, false, cond, not, _&&_, _||_, true≢false, false≢true}
+use mathlib.Core.Bool.{Bool, true, false, cond, not, _&&_, _||_}
 use mathlib.Core.List.{List}
 use native.Mathlib.Omega.{arith}
 use native.Mathlib.Nat.{div-lt-iff-lt-mul, div-eq-of-lt, lt-of-lt-of-le, one-mul}
 use lib.Dec.{ltb, leb, eqb}
 use lib.Pow.{pow-pos, pow-mono}
-use lib.ListN.{length, getD, take, drop, length-take, length-drop}
 use borrow.Author.Tests.{lt-ltb, le-leb, lt-leb, ltb-true, ltb-false, leb-true, leb-false, eqb-true, eq-eqb, ne-eqb, not-false}
 use Rattle.bits.specs.Bits.{bit}
-use Rattle.meaning.specs.Table.{Node}
-use Rattle.meaning.specs.Laws.{Ordered, operands}
-use Rattle.reading.specs.Lowest.{lowest, any, count}
-use Rattle.reading.specs.Parts.{Parts, labelOf, flagsOf, edgeCount, fromOf, toOf, nodeCount, nodeOf, operatorFrom, operatorsFrom, temporals, eventualities}
-use Rattle.reading.specs.Refusals.{_then_, refuseIf, refuseAt, lengthAt, at02, at03, at04, partsOf, badState, badEnd, above, notAbove, unknown, firstLimit, secondLimit, wrongByte, statesRefusal, edgesRefusal, deadEndRefusal, nodesRefusal, temporalsRefusal, partsRefusal, fieldsRefusal, refusal, shapeOf, readAs, caseOf}
-use Rattle.reading.specs.Admitted.{Admitted}
+use Rattle.meaning.specs.Laws.{operands}
+use Rattle.reading.specs.Parts.{labelOf, flagsOf, edgeCount, fromOf, toOf, nodeCount, nodeOf, operatorFrom, operatorsFrom}
+use Rattle.reading.specs.Refusals.{refuseAt, badState, badEnd, above, notAbove, unknown, firstLimit, secondLimit, wrongByte, statesRefusal, edgesRefusal, nodesRefusal}
 use Rattle.reading.specs.declared.CaseRefusal.{CaseRefusal}
 use Rattle.reading.specs.declared.CaseRefusal.the-variants.{Bits, End, Order, Operator, Operand}
-use Rattle.reading.specs.declared.Check.{Check}
-use Rattle.reading.specs.declared.Check.the-variants.{Passed, Refused}
-use Rattle.reading.specs.declared.Shape.{Shape}
-use Rattle.reading.specs.declared.Case.{Case}
+use Rattle.reading.specs.declared.Check.the-variants.{Passed}
 use Rattle.reading.proofs.Lowest.{any-false, count-mono}
-use Rattle.reading.proofs.Fields.{then-first, then-later, not-refused, and-first, and-second, or-first, or-second, Fields, fields-passed}
+use Rattle.reading.proofs.Fields.{not-refused, and-first, and-second, or-first, or-second}
 
 -- ---- a walk that refuses nothing
 

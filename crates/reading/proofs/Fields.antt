@@ -1,8 +1,8 @@
 -- What passing the rows of a field tells: its head, its tag, its length and its value are there and right; and what passing
 -- all of 10 to 14 tells of the four fields, as one record. Assumes nothing.
-use Prim.Native.Nat.{ℕ, zero, suc, _+_, _*_, _%_, _≤_, _<_}
-use mathlib.Core.Path.{_≡_, refl, sym, ap, _∙_}
-use mathlib.Core.Bool.{Bool, true, false, cond, not, _&&_, _||_, true≢false, false≢true}
+use Prim.Native.Nat.{ℕ, _+_, _*_, _%_, _≤_, _<_}
+use mathlib.Core.Path.{_≡_, refl}
+use mathlib.Core.Bool.{Bool, true, false, not, _&&_, _||_, true≢false, false≢true}
 use mathlib.Core.List.{List}
 use native.Mathlib.Omega.{arith}
 use lib.Dec.{ltb, leb, eqb}
@@ -10,7 +10,7 @@ use lib.ListN.{length, getD}
 use borrow.Author.Tests.{ltb-false, leb-true, eqb-true, not-false}
 use Rattle.reading.specs.Refusals.{_then_, refuseIf, lengthAt, at02, at03, at04, inSteps, fieldRefusal, outOfRange, lastRefusal, fieldsRefusal}
 use Rattle.reading.specs.declared.CaseRefusal.{CaseRefusal}
-use Rattle.reading.specs.declared.CaseRefusal.the-variants.{Range, Rest}
+use Rattle.reading.specs.declared.CaseRefusal.the-variants.{Range}
 use Rattle.reading.specs.declared.Check.{Check}
 use Rattle.reading.specs.declared.Check.the-variants.{Passed, Refused}
 

@@ -1,17 +1,15 @@
 -- What is known of a case that was read: its parts are `Admitted`, and its shape is theirs. From the rows' facts, by the order
 -- in which the rows stand. Assumes nothing.
-use Prim.Native.Nat.{ℕ, _+_, _*_, _/_, _%_, _^_, _≤_, _<_}
-use mathlib.Core.Path.{_≡_, refl, sym, ap, subst, _∙_}
+use Prim.Native.Nat.{ℕ, _*_, _≤_}
+use mathlib.Core.Path.{_≡_, refl, ap}
 use mathlib.Core.List.{List}
 use native.Mathlib.Omega.{arith}
 use native.Mathlib.Nat.{lt-of-lt-of-le}
 use lib.Pow.{pow-mono}
-use lib.ListN.{length, getD, take, drop, length-take, length-drop}
-use lib.Seq.{take-all}
+use lib.ListN.{length, length-take, length-drop}
 use borrow.Author.Tests.{ltb-false}
-use Rattle.meaning.specs.Laws.{Ordered}
 use Rattle.reading.specs.Parts.{Parts, edgeCount, nodeCount, temporals, eventualities}
-use Rattle.reading.specs.Refusals.{_then_, lengthAt, at03, at04, partsOf, statesRefusal, edgesRefusal, deadEndRefusal, nodesRefusal, temporalsRefusal, partsRefusal, fieldsRefusal, refusal, shapeOf, readAs, caseOf}
+use Rattle.reading.specs.Refusals.{lengthAt, at03, at04, partsOf, statesRefusal, edgesRefusal, deadEndRefusal, nodesRefusal, temporalsRefusal, partsRefusal, fieldsRefusal, refusal, shapeOf, readAs, caseOf}
 use Rattle.reading.specs.Admitted.{Admitted}
 use Rattle.reading.specs.declared.Check.{Check}
 use Rattle.reading.specs.declared.Check.the-variants.{Passed, Refused}

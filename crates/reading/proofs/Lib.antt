@@ -7,3 +7,4 @@ pub mod Known
 pub mod Spans
 pub mod Read
 pub mod Examples
+pub mod Edges

@@ -6,8 +6,8 @@ use mathlib.Core.Bool.{Bool, true, false, cond, true≢false}
 use native.Mathlib.Omega.{arith}
 use native.Mathlib.Nat.{le-of-eq}
 use native.Mathlib.Numerals.{add-one}
-use lib.Dec.{T, ltb}
-use borrow.Author.Tests.{lt-ltb, le-ltb, ltb-true, ltb-false}
+use lib.Dec.{ltb}
+use borrow.Author.Tests.{le-ltb, ltb-true, ltb-false}
 use Rattle.reading.specs.Lowest.{lowest, any, count}
 
 pub lowest-is : (test : ℕ → Bool) (n r : ℕ) → r ≤ n → ((j : ℕ) → j < r → test j ≡ false) → (r < n → test r ≡ true) → r ≡ lowest test n

@@ -1,21 +1,19 @@
 -- The answers of `admit` and `state`, from what their callees gave. Assumes nothing.
-use Prim.Native.Nat.{ℕ, _+_, _*_, _≤_, _<_}
-use mathlib.Core.Path.{_≡_, refl, sym, ap, ap₂, _∙_}
-use mathlib.Core.Bool.{Bool, cond}
+use Prim.Native.Nat.{ℕ, _≤_, _<_}
+use mathlib.Core.Path.{_≡_, refl}
 use mathlib.Core.List.{List}
 use native.Mathlib.Omega.{arith}
-use lib.Dec.{ltb}
 use borrow.Author.Tests.{lt-ltb, le-ltb}
 use Rattle.reading.specs.Parts.{Parts, edgeCount, nodeCount, temporals, eventualities}
 use Rattle.reading.specs.Refusals.{partsOf, partsRefusal, refusal, shapeOf, readAs, caseOf}
-use Rattle.reading.specs.Answers.{recordOf, answerOf, stateOf}
+use Rattle.reading.specs.Answers.{recordOf, stateOf}
 use Rattle.reading.specs.declared.CaseRefusal.{CaseRefusal}
 use Rattle.reading.specs.declared.Check.{Check}
 use Rattle.reading.specs.declared.Check.the-variants.{Passed, Refused}
 use Rattle.reading.specs.declared.Shape.{Shape}
 use Rattle.reading.specs.declared.Case.{Case}
 use Rattle.reading.specs.declared.StateAnswer.{StateAnswer}
-use Rattle.reading.proofs.Known.{Known, known}
+use Rattle.reading.proofs.Known.{known}
 
 module _ (p q : Parts) (same : p ≡ q) where
   pub read-refused : (r : CaseRefusal) → partsRefusal p ≡ Refused r → Case.Refused r ≡ readAs (partsRefusal q) (shapeOf q)

@@ -1,20 +1,18 @@
 -- The rows of the table as a walk meets them: a state with an edge is no dead end, one with none is; a walk that ends at r
 -- gives its row's refusal at r, or none. Assumes nothing.
-use Prim.Native.Nat.{ℕ, zero, suc, _+_, _≤_, _<_}
-use mathlib.Core.Path.{_≡_, refl, sym, ap, _∙_}
+use Prim.Native.Nat.{ℕ, _≤_, _<_}
+use mathlib.Core.Path.{_≡_, sym, ap, _∙_}
 use mathlib.Core.Bool.{Bool, true, false, cond, not, _||_}
-use native.Mathlib.Omega.{arith}
-use lib.Dec.{ltb, eqb}
+use mathlib.Core.List.{List}
+use lib.Dec.{eqb}
 use borrow.Author.Tests.{lt-ltb, le-ltb, eq-eqb}
 use Rattle.reading.specs.Lowest.{lowest, any}
 use Rattle.reading.specs.Parts.{edgeCount, fromOf, nodeCount}
 use Rattle.reading.specs.Refusals.{refuseAt, startsNone, badEnd, notAbove, unknown, wrongByte, edgesRefusal, nodesRefusal}
 use Rattle.reading.specs.declared.CaseRefusal.{CaseRefusal}
 use Rattle.reading.specs.declared.CaseRefusal.the-variants.{End, Order, Operator, Operand}
-use Rattle.reading.specs.declared.Check.{Check}
 use Rattle.reading.specs.declared.Check.the-variants.{Passed, Refused}
 use Rattle.reading.proofs.Lowest.{any-found, any-none}
-use mathlib.Core.List.{List}
 
 pub starts-one : (list : List ℕ) (s e : ℕ) → e < edgeCount list → fromOf list e ≡ s → startsNone list s ≡ false
 unfolding startsNone

@@ -1,17 +1,17 @@
 -- Where the parts lie: each is the bytes between two offsets, and in an admitted case the offsets are sums of the shape's
 -- numbers. Assumes nothing.
-use Prim.Native.Nat.{ℕ, _+_, _*_, _-_, _≤_, _<_}
-use mathlib.Core.Path.{_≡_, refl, sym, ap, ap₂, _∙_}
+use Prim.Native.Nat.{ℕ, _+_, _*_, _-_, _≤_}
+use mathlib.Core.Path.{_≡_, refl, sym, ap₂, _∙_}
 use mathlib.Core.List.{List}
 use native.Mathlib.Omega.{arith}
 use lib.ListN.{length, getD, take, drop}
-use Rattle.reading.specs.Parts.{Parts, edgeCount, nodeCount}
+use Rattle.reading.specs.Parts.{Parts}
 use Rattle.reading.specs.Refusals.{lengthAt, at03, at04, partsOf, fieldsRefusal, caseOf}
 use Rattle.reading.specs.declared.Check.the-variants.{Passed}
 use Rattle.reading.specs.declared.Shape.{Shape}
 use Rattle.reading.specs.declared.Case.{Case}
-use Rattle.reading.proofs.Fields.{Fields, fields-passed}
-use Rattle.reading.proofs.Known.{Sizes, sizes, passed-fields, Known, known}
+use Rattle.reading.proofs.Fields.{fields-passed}
+use Rattle.reading.proofs.Known.{sizes, passed-fields, known}
 
 module _ (bytes : List ℕ) where
   between : (a e a′ n : ℕ) → a ≡ a′ → e ≡ a + n → take (e - a) (drop a bytes) ≡ take n (drop a′ bytes)

@@ -51,11 +51,13 @@ fn check_field(bytes: &[u8], at: usize, tag: usize, step: usize, least: usize, m
     if bytes.len() < at + 3 {
         return Check::Refused(CaseRefusal::Short(at));
     }
-    if parts::byte(bytes, at) != tag {
+    let tag_right = parts::byte(bytes, at) == tag;
+    let size = length_at(bytes, at);
+    let size_right = in_steps(step, least, most, size);
+    if !tag_right {
         return Check::Refused(CaseRefusal::Tag(at));
     }
-    let size = length_at(bytes, at);
-    if !in_steps(step, least, most, size) {
+    if !size_right {
         return Check::Refused(CaseRefusal::Length(at));
     }
     if bytes.len() < at + 3 + size {
@@ -213,25 +215,28 @@ fn check_edges(list: &[u8], states: usize) -> Check
     Check::Passed
 }
 
-// The lowest state that starts no edge, or S if each starts one. The label leaves both loops: at the first edge that the state
-// starts, for the next state; at a dead end, for good.
+// The lowest state that starts no edge, or S if each starts one; `left` states are still to be looked at. The label leaves both
+// loops: at the first edge that the state starts, for the next state; at a dead end, for good.
 fn lowest_dead_end(list: &[u8], states: usize) -> usize
     ensures { λ r. ⌜ r ≡ lowest (startsNone (now (list .entry))) states ⌝ }
 {
     let count = list.len() / 2;
-    let mut s = 0;
-    'states: while s < states {
+    let mut found = states;
+    let mut left = states;
+    'states: while 0 < left {
+        let s = states - left;
         let mut e = 0;
         while e < count {
             if parts::from(list, e) == s {
-                s += 1;
+                left -= 1;
                 continue 'states;
             }
             e += 1;
         }
+        found = s;
         break 'states;
     }
-    s
+    found
 }
 
 // 23.

@@ -1,22 +1,17 @@
-use lib.ListN.{length-take, length-drop}
-use Rattle.reading.proofs.Read.{read-refused, read-passed}
-use Rattle.reading.specs.Refusals.{lengthAt, at03}
+-- `reading::admit_parts` meets its contract. The three slices are the parts that `partsOf` takes by position (`Spans`), so
+-- what is said of them is said of the case. Assumes nothing.
 use Prim.Native.Nat.{ℕ, _+_, _*_}
 use mathlib.Core.Path.{_≡_, sym, ap, _∙_}
-use denote.Ref.{now}
-use Rattle.reading.proofs.Spans.{Offsets, offsets, parts-taken}
 use native.Mathlib.Omega.{arith}
+use lib.ListN.{length-take, length-drop}
+use denote.Ref.{now}
 use borrow.Author.Needs.{needs}
+use Rattle.reading.specs.Refusals.{lengthAt, at03}
+use Rattle.reading.proofs.Read.{read-refused, read-passed}
+use Rattle.reading.proofs.Spans.{Offsets, offsets, parts-taken}
 use Rattle.reading.proofs.admit_parts.Statement.{statement}
 use Rattle.reading.proofs.admit_parts.Tie as tie
-use Rattle.reading.proofs.admit_parts.Reads as reads
-use Rattle.reading.proofs.admit_parts.Lts as lts
-use Rattle.reading.proofs.parts.byte.Reads as byte-reads
-use Rattle.reading.proofs.parts.operators_from.Reads as operators-from-reads
-use Rattle.reading.proofs.refuse.check_parts.Reads as check-parts-reads
-use Rattle.reading.proofs.refuse.length_at.Reads as length-at-reads
 
--- where the parts lie, and that the length of field 03 was read
 off : (c : tie.Start) → Offsets (now (c .args .bytes))
 off c = offsets _ (c .pre)
 
@@ -26,83 +21,63 @@ size c =
     c .length-at .ensures .0
     ∙ ap (λ (s : ℕ). lengthAt (now (c .before .before .before .before .args .bytes)) (8 + 3 * s)) (c .before .before .byte .ensures .0)
 
--- src/lib.rt:83:9
 byte-requires : tie.Need-byte-requires
 byte-requires c κs = omega (arith, off (c .before))
 
--- src/lib.rt:84:9
 byte-requires-2 : tie.Need-byte-requires-2
 byte-requires-2 c κs = omega (arith, off (c .before .before))
 
--- src/lib.rt:85:26
 mul-states-end : tie.Need-mul-states-end
 mul-states-end c = search needs
 
--- src/lib.rt:85:22
 add-states-end : tie.Need-add-states-end
 add-states-end c = search needs
 
--- src/lib.rt:86:23
 add-edges-start : tie.Need-add-edges-start
 add-edges-start c = search needs
 
--- src/lib.rt:87:35
 length-at-requires : tie.Need-length-at-requires
 length-at-requires c κs = omega (arith, off (c .before .before .before), c .before .byte .ensures .0)
 
--- src/lib.rt:87:21
 add-edges-end : tie.Need-add-edges-end
 add-edges-end c = search needs
 
--- src/lib.rt:88:23
 add-nodes-start : tie.Need-add-nodes-start
 add-nodes-start c = search needs
 
--- src/lib.rt:89:22
 sub-state-list : tie.Need-sub-state-list
 sub-state-list c = search needs
 
--- src/lib.rt:89:22
 part-state-list-start : tie.Need-part-state-list-start
 part-state-list-start c = search needs
 
--- src/lib.rt:89:22
 part-state-list-end : tie.Need-part-state-list-end
 part-state-list-end c = omega (arith, off (c .before .before .before .before), c .before .before .byte .ensures .0)
 
--- src/lib.rt:90:21
 sub-edge-list : tie.Need-sub-edge-list
 sub-edge-list c = search needs
 
--- src/lib.rt:90:21
 part-edge-list-start : tie.Need-part-edge-list-start
 part-edge-list-start c = search needs
 
--- src/lib.rt:90:21
 part-edge-list-end : tie.Need-part-edge-list-end
 part-edge-list-end c = omega (arith, off (c .before .before .before .before .before), c .before .before .before .byte .ensures .0, size (c .before))
 
--- src/lib.rt:91:21
 sub-node-list : tie.Need-sub-node-list
 sub-node-list c = omega (arith, off (c .before .before .before .before .before .before), c .before .before .before .before .byte .ensures .0, size (c .before .before))
 
--- src/lib.rt:91:21
 part-node-list-start : tie.Need-part-node-list-start
 part-node-list-start c = omega (arith, off (c .before .before .before .before .before .before), c .before .before .before .before .byte .ensures .0, size (c .before .before))
 
--- src/lib.rt:91:21
 part-node-list-end : tie.Need-part-node-list-end
 part-node-list-end c = search needs
 
--- src/lib.rt:92:9
 check-parts-requires : tie.Need-check-parts-requires
 check-parts-requires c κs = (simp (length-take, length-drop) (omega (arith, off (c .before .before .before .before .before .before .before), c .before .before .before .before .before .byte .ensures .0)), omega (arith, off (c .before .before .before .before .before .before .before), c .before .before .before .before .byte2 .ensures .0))
 
--- src/lib.rt:93:27
 enum-known-by-parts : tie.Need-enum-known-by-parts
 enum-known-by-parts c = search needs
 
--- src/lib.rt:94:9
 returns : tie.Need-returns
 returns c =
     read-refused _ _
@@ -113,15 +88,12 @@ returns c =
 enum-told : tie.Need-enum-told
 enum-told c = search needs
 
--- src/lib.rt:101:20
 operators-from-requires : tie.Need-operators-from-requires
 operators-from-requires c κs = search needs
 
--- src/lib.rt:102:24
 operators-from-requires-2 : tie.Need-operators-from-requires-2
 operators-from-requires-2 c κs = search needs
 
--- src/lib.rt:79:1
 returns-2 : tie.Need-returns-2
 returns-2 c =
     read-passed _ _

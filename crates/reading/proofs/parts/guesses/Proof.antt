@@ -1,19 +1,17 @@
+-- `reading::parts::guesses` meets its contract. 2 to the power T is below 2 to the power 64, so the shift drops nothing.
+-- Assumes nothing.
 use Prim.Native.Nat.{_*_, _%_, _^_}
-use native.Mathlib.Nat.{one-mul, le-trans, le-of-eq}
 use mathlib.Core.Path.{_≡_, _∙_}
+use native.Mathlib.Nat.{one-mul, le-trans, le-of-eq}
 use native.Mathlib.Omega.{arith}
 use lib.Pow.{shl-exact, pow-mono}
 use borrow.Author.Needs.{needs}
 use Rattle.reading.proofs.parts.guesses.Statement.{statement}
 use Rattle.reading.proofs.parts.guesses.Tie as tie
-use Rattle.reading.proofs.parts.guesses.Reads as reads
-use Rattle.reading.proofs.parts.guesses.Lts as lts
 
--- src/parts.rt:164:5
 shl-result : tie.Need-shl-result
 shl-result c = search needs
 
--- src/parts.rt:160:1
 power : (c : tie.Start) → (1 * 2 ^ (c .args .temporals)) % 2 ^ 64 ≡ 2 ^ (c .args .temporals)
 power c = shl-exact {a = 1} 1 _ 64 (omega arith) (omega arith) ∙ one-mul _
 

@@ -1,18 +1,16 @@
+-- `reading::parts::operators_from` meets its contract. The loop's invariant: the total is the count over the nodes passed,
+-- and at most their number. The measure is how many are left. Assumes nothing.
+use Prim.Native.Nat.{ℕ, _+_, _-_, _≤_}
 use mathlib.Core.Bool.{cond, _&&_}
 use mathlib.Core.Path.{_≡_, refl, sym, ap, ap₂, _∙_}
+use native.Mathlib.Omega.{arith}
+use lib.Dec.{leb}
 use borrow.Author.Needs.{needs}
-use Rattle.reading.proofs.Lowest.{count-more}
 use Rattle.reading.specs.Lowest.{count as count′}
 use Rattle.reading.specs.Parts.{operatorFrom, operatorsFrom}
-use lib.Dec.{leb}
-use Prim.Native.Nat.{ℕ, _+_, _*_, _-_, _/_, _≤_, _<_}
-use native.Mathlib.Omega.{arith}
+use Rattle.reading.proofs.Lowest.{count-more}
 use Rattle.reading.proofs.parts.operators_from.Statement.{statement}
 use Rattle.reading.proofs.parts.operators_from.Tie as tie
-use Rattle.reading.proofs.parts.operators_from.Reads as reads
-use Rattle.reading.proofs.parts.operators_from.Lts as lts
-use Rattle.reading.proofs.parts.in_range.Reads as in-range-reads
-use Rattle.reading.proofs.parts.operator.Reads as operator-reads
 
 abbrev Inv-loop : tie.InvT-loop
 Inv-loop nodes low count total₀ n₀ total n = (n ≤ count) × (total ≤ n) × (total ≡ count′ (operatorFrom low nodes) n)
@@ -20,32 +18,25 @@ Inv-loop nodes low count total₀ n₀ total n = (n ≤ count) × (total ≤ n) 
 abbrev μ-loop : tie.MeasureT-loop
 μ-loop nodes low count total₀ n₀ total n = count - n
 
--- src/parts.rt:142:5
 loop-holds : tie.Need-loop-holds Inv-loop μ-loop
 unfolding count′
 loop-holds c = (omega arith, omega arith, refl)
 
--- src/parts.rt:143:27
 operator-requires : tie.Need-operator-requires Inv-loop μ-loop
 operator-requires c κs = omega arith
 
--- src/parts.rt:143:18
 in-range-requires : tie.Need-in-range-requires Inv-loop μ-loop
 in-range-requires c κs = search needs
 
--- src/parts.rt:143:9
 add-total : tie.Need-add-total Inv-loop μ-loop
 add-total c = omega arith
 
--- src/parts.rt:144:9
 add-n : tie.Need-add-n Inv-loop μ-loop
 add-n c = omega arith
 
--- src/parts.rt:142:5
 loop-less : tie.Need-loop-less Inv-loop μ-loop
 loop-less c = omega arith
 
--- src/parts.rt:142:5
 loop-again : tie.Need-loop-again Inv-loop μ-loop
 unfolding operatorFrom
 loop-again c = (
@@ -57,7 +48,6 @@ loop-again c = (
       ∙ sym (count-more _ _),
 )
 
--- src/parts.rt:136:1
 returns : tie.Need-returns Inv-loop μ-loop
 unfolding operatorsFrom
 returns c = c .before .loop .inv .2 ∙ ap (count′ _) (omega arith)

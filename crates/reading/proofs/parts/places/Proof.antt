@@ -1,29 +1,22 @@
+-- `reading::parts::places` meets its contract. The product is at most 64 · 16 · 5. Assumes nothing.
 use native.Mathlib.Nat.{lt-of-le-of-lt, mul-le-mul, add-le-add, le-refl}
 use native.Mathlib.Omega.{arith}
 use borrow.Author.Needs.{needs}
 use Rattle.reading.proofs.parts.places.Statement.{statement}
 use Rattle.reading.proofs.parts.places.Tie as tie
-use Rattle.reading.proofs.parts.places.Reads as reads
-use Rattle.reading.proofs.parts.places.Lts as lts
-use Rattle.reading.proofs.parts.guesses.Reads as guesses-reads
 
--- src/parts.rt:172:20
 guesses-requires : tie.Need-guesses-requires
 guesses-requires c κs = search needs
 
--- src/parts.rt:172:5
 mul-result : tie.Need-mul-result
 mul-result c = record { fits = lt-of-le-of-lt (mul-le-mul (c .before .before .pre .0) (c .before .guesses .ensures .1)) (omega arith) }
 
--- src/parts.rt:172:48
 add-result : tie.Need-add-result
 add-result c = search needs
 
--- src/parts.rt:172:5
 mul-result-2 : tie.Need-mul-result-2
 mul-result-2 c = record { fits = lt-of-le-of-lt (mul-le-mul (mul-le-mul (c .before .before .before .pre .0) (c .before .before .guesses .ensures .1)) (add-le-add (c .before .before .before .pre .2) (le-refl 1))) (omega arith) }
 
--- src/parts.rt:168:1
 returns : tie.Need-returns
 returns c = rw (c .before .before .guesses .ensures .0)
 

@@ -1,23 +1,18 @@
-use Rattle.reading.specs.declared.CaseRefusal.the-variants.{DeadEnd}
-use Rattle.reading.proofs.Rows.{refused-at, none-refused}
-use Rattle.reading.specs.Refusals.{deadEndRefusal}
+-- `reading::refuse::check_dead_ends` meets its contract. By where the walk ended. Assumes nothing.
 use borrow.Author.Needs.{needs}
+use Rattle.reading.specs.declared.CaseRefusal.the-variants.{DeadEnd}
+use Rattle.reading.specs.Refusals.{deadEndRefusal}
+use Rattle.reading.proofs.Rows.{refused-at, none-refused}
 use Rattle.reading.proofs.refuse.check_dead_ends.Statement.{statement}
 use Rattle.reading.proofs.refuse.check_dead_ends.Tie as tie
-use Rattle.reading.proofs.refuse.check_dead_ends.Reads as reads
-use Rattle.reading.proofs.refuse.check_dead_ends.Lts as lts
-use Rattle.reading.proofs.refuse.lowest_dead_end.Reads as lowest-dead-end-reads
 
--- src/refuse.rt:233:9
 lowest-dead-end-requires : tie.Need-lowest-dead-end-requires
 lowest-dead-end-requires c κs = search needs
 
--- src/refuse.rt:235:9
 returns : tie.Need-returns
 unfolding deadEndRefusal
 returns c = refused-at _ _ DeadEnd _ (c .before .lowest-dead-end .ensures) (c .if1 .taken)
 
--- src/refuse.rt:230:1
 returns-2 : tie.Need-returns-2
 unfolding deadEndRefusal
 returns-2 c = none-refused _ _ DeadEnd _ (c .before .lowest-dead-end .ensures) (c .if1 .left)

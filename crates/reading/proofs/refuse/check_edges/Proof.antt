@@ -1,30 +1,22 @@
+-- `reading::refuse::check_edges` meets its contract. By where the walk ended. Assumes nothing.
 use mathlib.Core.Path.{sym, _∙_}
-use Rattle.reading.proofs.Rows.{refused-end, refused-order, no-edge-refused}
 use borrow.Author.Needs.{needs}
+use Rattle.reading.proofs.Rows.{refused-end, refused-order, no-edge-refused}
 use Rattle.reading.proofs.refuse.check_edges.Statement.{statement}
 use Rattle.reading.proofs.refuse.check_edges.Tie as tie
-use Rattle.reading.proofs.refuse.check_edges.Reads as reads
-use Rattle.reading.proofs.refuse.check_edges.Lts as lts
-use Rattle.reading.proofs.refuse.bad_end.Reads as bad-end-reads
-use Rattle.reading.proofs.refuse.lowest_bad_edge.Reads as lowest-bad-edge-reads
 
--- src/refuse.rt:201:9
 lowest-bad-edge-requires : tie.Need-lowest-bad-edge-requires
 lowest-bad-edge-requires c κs = search needs
 
--- src/refuse.rt:203:12
 bad-end-requires : tie.Need-bad-end-requires
 bad-end-requires c κs = search needs
 
--- src/refuse.rt:204:13
 returns : tie.Need-returns
 returns c = refused-end _ _ _ (c .before .before .before .lowest-bad-edge .ensures) (c .before .before .if1 .taken) (sym (c .before .bad-end .ensures) ∙ c .if2 .taken)
 
--- src/refuse.rt:206:9
 returns-2 : tie.Need-returns-2
 returns-2 c = refused-order _ _ _ (c .before .before .before .lowest-bad-edge .ensures) (c .before .before .if1 .taken) (sym (c .before .bad-end .ensures) ∙ c .if2 .left)
 
--- src/refuse.rt:198:1
 returns-3 : tie.Need-returns-3
 returns-3 c = no-edge-refused _ _ _ (c .before .lowest-bad-edge .ensures) (c .if1 .left)
 

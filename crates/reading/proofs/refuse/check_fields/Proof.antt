@@ -1,27 +1,19 @@
-use Rattle.reading.proofs.Fields.{field-passed, first-there}
-use Rattle.reading.specs.Refusals.{fieldsRefusal, at04}
+-- `reading::refuse::check_fields` meets its contract. Each return rewrites the definition with what led there; a field that
+-- passed is there to be read (`Fields`). Assumes nothing.
 use mathlib.Core.Path.{sym, _∙_}
 use native.Mathlib.Omega.{arith}
 use borrow.Author.Needs.{needs}
+use Rattle.reading.specs.Refusals.{fieldsRefusal, at04}
+use Rattle.reading.proofs.Fields.{field-passed, first-there}
 use Rattle.reading.proofs.refuse.check_fields.Statement.{statement}
 use Rattle.reading.proofs.refuse.check_fields.Tie as tie
-use Rattle.reading.proofs.refuse.check_fields.Reads as reads
-use Rattle.reading.proofs.refuse.check_fields.Lts as lts
-use Rattle.reading.proofs.parts.byte.Reads as byte-reads
-use Rattle.reading.proofs.refuse.check_field.Reads as check-field-reads
-use Rattle.reading.proofs.refuse.check_last_field.Reads as check-last-field-reads
-use Rattle.reading.proofs.refuse.length_at.Reads as length-at-reads
-use Rattle.reading.proofs.refuse.out_of_range.Reads as out-of-range-reads
 
--- src/refuse.rt:68:9
 check-field-requires : tie.Need-check-field-requires
 check-field-requires c κs = search needs
 
--- src/refuse.rt:69:27
 enum-known-first : tie.Need-enum-known-first
 enum-known-first c = search needs
 
--- src/refuse.rt:70:9
 returns : tie.Need-returns
 unfolding fieldsRefusal
 returns c =
@@ -31,19 +23,15 @@ returns c =
 enum-told : tie.Need-enum-told
 enum-told c = search needs
 
--- src/refuse.rt:72:9
 byte-requires : tie.Need-byte-requires
 byte-requires c κs = first-there _ (sym (c .before .before .check-field .ensures) ∙ c .enum-told .given .1) 3 (omega arith)
 
--- src/refuse.rt:73:29
 byte-requires-2 : tie.Need-byte-requires-2
 byte-requires-2 c κs = first-there _ (sym (c .before .before .before .check-field .ensures) ∙ c .before .enum-told .given .1) 4 (omega arith)
 
--- src/refuse.rt:73:8
 out-of-range-requires : tie.Need-out-of-range-requires
 out-of-range-requires c κs = search needs
 
--- src/refuse.rt:74:9
 returns-2 : tie.Need-returns-2
 unfolding fieldsRefusal
 returns-2 c =
@@ -55,23 +43,18 @@ returns-2 c =
       c .if1 .taken,
     )
 
--- src/refuse.rt:76:46
 mul-check-field : tie.Need-mul-check-field
 mul-check-field c = search needs
 
--- src/refuse.rt:76:58
 mul-check-field-2 : tie.Need-mul-check-field-2
 mul-check-field-2 c = search needs
 
--- src/refuse.rt:76:9
 check-field-requires-2 : tie.Need-check-field-requires-2
 check-field-requires-2 c κs = search needs
 
--- src/refuse.rt:77:27
 enum-known-second : tie.Need-enum-known-second
 enum-known-second c = search needs
 
--- src/refuse.rt:78:9
 returns-3 : tie.Need-returns-3
 unfolding fieldsRefusal
 returns-3 c =
@@ -87,23 +70,18 @@ returns-3 c =
 enum-told-2 : tie.Need-enum-told-2
 enum-told-2 c = search needs
 
--- src/refuse.rt:80:18
 mul-at : tie.Need-mul-at
 mul-at c = search needs
 
--- src/refuse.rt:80:14
 add-at : tie.Need-add-at
 add-at c = search needs
 
--- src/refuse.rt:81:9
 check-field-requires-3 : tie.Need-check-field-requires-3
 check-field-requires-3 c κs = search needs
 
--- src/refuse.rt:82:27
 enum-known-third : tie.Need-enum-known-third
 enum-known-third c = search needs
 
--- src/refuse.rt:83:9
 returns-4 : tie.Need-returns-4
 unfolding fieldsRefusal
 returns-4 c =
@@ -120,23 +98,18 @@ returns-4 c =
 enum-told-3 : tie.Need-enum-told-3
 enum-told-3 c = search needs
 
--- src/refuse.rt:85:29
 add-check-last-field : tie.Need-add-check-last-field
 add-check-last-field c = search needs
 
--- src/refuse.rt:85:38
 length-at-requires : tie.Need-length-at-requires
 length-at-requires c κs = omega (arith, field-passed _ _ _ _ _ _ (sym (c .before .before .check-field3 .ensures) ∙ c .enum-told3 .given .1) .head)
 
--- src/refuse.rt:85:29
 add-check-last-field-2 : tie.Need-add-check-last-field-2
 add-check-last-field-2 c = search needs
 
--- src/refuse.rt:85:5
 check-last-field-requires : tie.Need-check-last-field-requires
 check-last-field-requires c κs = search needs
 
--- src/refuse.rt:65:1
 returns-5 : tie.Need-returns-5
 unfolding fieldsRefusal at04
 returns-5 c =

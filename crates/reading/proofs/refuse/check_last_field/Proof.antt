@@ -1,25 +1,20 @@
-use Rattle.reading.proofs.Fields.{field-passed}
-use Rattle.reading.specs.Refusals.{lastRefusal}
-use borrow.Author.Tests.{lt-ltb, le-ltb}
+-- `reading::refuse::check_last_field` meets its contract. Each return rewrites the definition with what led there. Assumes
+-- nothing.
 use mathlib.Core.Path.{sym, _∙_}
 use native.Mathlib.Omega.{arith}
+use borrow.Author.Tests.{lt-ltb, le-ltb}
 use borrow.Author.Needs.{needs}
+use Rattle.reading.specs.Refusals.{lastRefusal}
+use Rattle.reading.proofs.Fields.{field-passed}
 use Rattle.reading.proofs.refuse.check_last_field.Statement.{statement}
 use Rattle.reading.proofs.refuse.check_last_field.Tie as tie
-use Rattle.reading.proofs.refuse.check_last_field.Reads as reads
-use Rattle.reading.proofs.refuse.check_last_field.Lts as lts
-use Rattle.reading.proofs.refuse.check_field.Reads as check-field-reads
-use Rattle.reading.proofs.refuse.length_at.Reads as length-at-reads
 
--- src/refuse.rt:92:9
 check-field-requires : tie.Need-check-field-requires
 check-field-requires c κs = search needs
 
--- src/refuse.rt:93:27
 enum-known-last : tie.Need-enum-known-last
 enum-known-last c = search needs
 
--- src/refuse.rt:94:9
 returns : tie.Need-returns
 unfolding lastRefusal
 returns c =
@@ -29,19 +24,15 @@ returns c =
 enum-told : tie.Need-enum-told
 enum-told c = search needs
 
--- src/refuse.rt:96:15
 add-end : tie.Need-add-end
 add-end c = search needs
 
--- src/refuse.rt:96:24
 length-at-requires : tie.Need-length-at-requires
 length-at-requires c κs = omega (arith, field-passed _ _ _ _ _ _ (sym (c .before .before .check-field .ensures) ∙ c .enum-told .given .1) .head)
 
--- src/refuse.rt:96:15
 add-end-2 : tie.Need-add-end-2
 add-end-2 c = search needs
 
--- src/refuse.rt:98:9
 returns-2 : tie.Need-returns-2
 unfolding lastRefusal
 returns-2 c =
@@ -51,7 +42,6 @@ returns-2 c =
       lt-ltb _ _ (c .if1 .taken),
     )
 
--- src/refuse.rt:89:1
 returns-3 : tie.Need-returns-3
 unfolding lastRefusal
 returns-3 c =

@@ -1,30 +1,22 @@
+-- `reading::refuse::check_nodes` meets its contract. By where the walk ended. Assumes nothing.
 use mathlib.Core.Path.{sym, _∙_}
-use Rattle.reading.proofs.Rows.{refused-operator, refused-operand, no-node-refused}
 use borrow.Author.Needs.{needs}
+use Rattle.reading.proofs.Rows.{refused-operator, refused-operand, no-node-refused}
 use Rattle.reading.proofs.refuse.check_nodes.Statement.{statement}
 use Rattle.reading.proofs.refuse.check_nodes.Tie as tie
-use Rattle.reading.proofs.refuse.check_nodes.Reads as reads
-use Rattle.reading.proofs.refuse.check_nodes.Lts as lts
-use Rattle.reading.proofs.refuse.is_unknown.Reads as is-unknown-reads
-use Rattle.reading.proofs.refuse.lowest_bad_node.Reads as lowest-bad-node-reads
 
--- src/refuse.rt:319:9
 lowest-bad-node-requires : tie.Need-lowest-bad-node-requires
 lowest-bad-node-requires c κs = search needs
 
--- src/refuse.rt:321:12
 is-unknown-requires : tie.Need-is-unknown-requires
 is-unknown-requires c κs = search needs
 
--- src/refuse.rt:322:13
 returns : tie.Need-returns
 returns c = refused-operator _ _ _ (c .before .before .before .lowest-bad-node .ensures) (c .before .before .if1 .taken) (sym (c .before .is-unknown .ensures) ∙ c .if2 .taken)
 
--- src/refuse.rt:324:9
 returns-2 : tie.Need-returns-2
 returns-2 c = refused-operand _ _ _ (c .before .before .before .lowest-bad-node .ensures) (c .before .before .if1 .taken) (sym (c .before .is-unknown .ensures) ∙ c .if2 .left)
 
--- src/refuse.rt:316:1
 returns-3 : tie.Need-returns-3
 returns-3 c = no-node-refused _ _ _ (c .before .lowest-bad-node .ensures) (c .if1 .left)
 

@@ -1,27 +1,21 @@
-use Rattle.reading.specs.Refusals.{firstLimit}
+-- `reading::refuse::first_limit` meets its contract. By cases on the tests. Assumes nothing.
 use borrow.Author.Tests.{eq-eqb, ne-eqb, le-leb, lt-leb}
 use borrow.Author.Needs.{needs}
+use Rattle.reading.specs.Refusals.{firstLimit}
 use Rattle.reading.proofs.refuse.first_limit.Statement.{statement}
 use Rattle.reading.proofs.refuse.first_limit.Tie as tie
-use Rattle.reading.proofs.refuse.first_limit.Reads as reads
-use Rattle.reading.proofs.refuse.first_limit.Lts as lts
-use Rattle.reading.proofs.refuse.operands.Reads as operands-reads
 
--- src/refuse.rt:258:9
 returns : tie.Need-returns
 unfolding firstLimit
 returns c = simp (eq-eqb _ _ (c .if1 .taken))
 
--- src/refuse.rt:260:13
 operands-requires : tie.Need-operands-requires
 operands-requires c κs = search needs
 
--- src/refuse.rt:261:9
 returns-2 : tie.Need-returns-2
 unfolding firstLimit
 returns-2 c = simp (ne-eqb _ _ (c .before .before .if1 .left), ← c .before .operands .ensures, le-leb _ _ (c .if2 .taken))
 
--- src/refuse.rt:254:1
 returns-3 : tie.Need-returns-3
 unfolding firstLimit
 returns-3 c = simp (ne-eqb _ _ (c .before .before .if1 .left), ← c .before .operands .ensures, lt-leb _ _ (c .if2 .left))

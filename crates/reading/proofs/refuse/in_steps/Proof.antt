@@ -1,26 +1,21 @@
-use Rattle.reading.specs.Refusals.{inSteps}
+-- `reading::refuse::in_steps` meets its contract. By cases on the tests, in the definition's order. Assumes nothing.
 use borrow.Author.Tests.{eq-eqb, ne-eqb, le-leb, lt-leb}
 use borrow.Author.Needs.{needs}
+use Rattle.reading.specs.Refusals.{inSteps}
 use Rattle.reading.proofs.refuse.in_steps.Statement.{statement}
 use Rattle.reading.proofs.refuse.in_steps.Tie as tie
-use Rattle.reading.proofs.refuse.in_steps.Reads as reads
-use Rattle.reading.proofs.refuse.in_steps.Lts as lts
 
--- src/refuse.rt:33:8
 rem-if1 : tie.Need-rem-if1
 rem-if1 c = search needs
 
--- src/refuse.rt:34:9
 returns : tie.Need-returns
 unfolding inSteps
 returns c = simp (ne-eqb _ _ (c .if1 .taken))
 
--- src/refuse.rt:29:1
 returns-2 : tie.Need-returns-2
 unfolding inSteps
 returns-2 c = simp (eq-eqb _ _ (c .before .if1 .left), le-leb _ _ (c .if2 .taken))
 
--- src/refuse.rt:29:1
 returns-3 : tie.Need-returns-3
 unfolding inSteps
 returns-3 c = simp (eq-eqb _ _ (c .before .if1 .left), lt-leb _ _ (c .if2 .left))

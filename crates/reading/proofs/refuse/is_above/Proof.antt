@@ -1,35 +1,26 @@
-use Rattle.reading.specs.Refusals.{above}
+-- `reading::refuse::is_above` meets its contract. By cases on the tests, in the definition's order. Assumes nothing.
 use borrow.Author.Tests.{lt-ltb, le-ltb, eq-eqb, ne-eqb}
 use borrow.Author.Needs.{needs}
+use Rattle.reading.specs.Refusals.{above}
 use Rattle.reading.proofs.refuse.is_above.Statement.{statement}
 use Rattle.reading.proofs.refuse.is_above.Tie as tie
-use Rattle.reading.proofs.refuse.is_above.Reads as reads
-use Rattle.reading.proofs.refuse.is_above.Lts as lts
-use Rattle.reading.proofs.parts.from.Reads as from-reads
-use Rattle.reading.proofs.parts.to.Reads as to-reads
 
--- src/refuse.rt:150:9
 from-requires : tie.Need-from-requires
 from-requires c κs = search needs
 
--- src/refuse.rt:151:9
 from-requires-2 : tie.Need-from-requires-2
 from-requires-2 c κs = search needs
 
--- src/refuse.rt:152:41
 to-requires : tie.Need-to-requires
 to-requires c κs = search needs
 
--- src/refuse.rt:152:62
 to-requires-2 : tie.Need-to-requires-2
 to-requires-2 c κs = search needs
 
--- src/refuse.rt:146:1
 returns : tie.Need-returns
 unfolding above
 returns c = simp (← c .before .before .from .ensures, ← c .before .from2 .ensures, lt-ltb _ _ (c .if1 .taken))
 
--- src/refuse.rt:146:1
 returns-2 : tie.Need-returns-2
 unfolding above
 returns-2 c =
@@ -42,7 +33,6 @@ returns-2 c =
       eq-eqb _ _ (c .before .before .if2 .taken),
     )
 
--- src/refuse.rt:146:1
 returns-3 : tie.Need-returns-3
 unfolding above
 returns-3 c =

@@ -1,94 +1,89 @@
+-- `reading::refuse::lowest_dead_end` meets its contract. The outer loop's invariant: every state passed starts an edge, and
+-- none is found yet; its measure is how many states are left. The inner loop's: the states left are as they were, and no edge
+-- passed starts at this state; its measure is how many edges are left. Assumes nothing.
+use Prim.Native.Nat.{ℕ, _-_, _≤_, _<_}
+use mathlib.Core.Bool.{false}
+use mathlib.Core.Path.{_≡_, refl, sym, _∙_}
+use native.Mathlib.Omega.{arith}
+use lib.Dec.{eqb}
+use borrow.Author.Count.{below-more}
 use borrow.Author.Tests.{ne-eqb}
 use Rattle.reading.specs.Refusals.{startsNone}
 use Rattle.reading.specs.Parts.{fromOf}
-use lib.Dec.{eqb}
-use mathlib.Core.Bool.{false}
-use mathlib.Core.Path.{_≡_, refl, sym, _∙_}
-use borrow.Author.Count.{below-more}
 use Rattle.reading.proofs.Rows.{starts-one, starts-none}
 use Rattle.reading.proofs.Lowest.{lowest-is}
-use Prim.Native.Nat.{ℕ, _+_, _*_, _-_, _/_, _≤_, _<_}
-use native.Mathlib.Omega.{arith}
 use Rattle.reading.proofs.refuse.lowest_dead_end.Statement.{statement}
 use Rattle.reading.proofs.refuse.lowest_dead_end.Tie as tie
-use Rattle.reading.proofs.refuse.lowest_dead_end.Reads as reads
-use Rattle.reading.proofs.refuse.lowest_dead_end.Lts as lts
-use Rattle.reading.proofs.parts.from.Reads as from-reads
 
 abbrev Inv-loop : tie.InvT-loop
-Inv-loop list states count s₀ e₀ s e = (s ≡ s₀) × (e ≤ count) × ((j : ℕ) → j < e → eqb (fromOf list j) s₀ ≡ false)
+Inv-loop list states count found left₀ s e₀ left e = (left ≡ left₀) × (e ≤ count) × ((j : ℕ) → j < e → eqb (fromOf list j) s ≡ false)
 
 abbrev μ-loop : tie.MeasureT-loop
-μ-loop list states count s₀ e₀ s e = count - e
+μ-loop list states count found left₀ s e₀ left e = count - e
 
 abbrev Inv-states : tie.InvT-states
-Inv-states list states count s₀ s = (s ≤ states) × ((j : ℕ) → j < s → startsNone list j ≡ false)
+Inv-states list states count found₀ left₀ found left = (left ≤ states) × (found ≡ states) × ((j : ℕ) → j < states - left → startsNone list j ≡ false)
 
 abbrev μ-states : tie.MeasureT-states
-μ-states list states count s₀ s = states - s
+μ-states list states count found₀ left₀ found left = left
 
--- src/refuse.rt:209:5
 states-holds : tie.Need-states-holds Inv-loop μ-loop Inv-states μ-states
-states-holds c = (omega arith, λ j h. absurd (omega arith))
+states-holds c = (omega arith, refl, λ j h. absurd (omega arith))
 
--- src/refuse.rt:211:9
+sub-s : tie.Need-sub-s Inv-loop μ-loop Inv-states μ-states
+sub-s c = omega arith
+
 loop-holds : tie.Need-loop-holds Inv-loop μ-loop Inv-states μ-states
-loop-holds c = (refl, (omega arith), λ j h. absurd (omega arith))
+loop-holds c = (refl, omega arith, λ j h. absurd (omega arith))
 
--- src/refuse.rt:212:16
 from-requires : tie.Need-from-requires Inv-loop μ-loop Inv-states μ-states
 from-requires c κs = omega arith
 
--- src/refuse.rt:213:17
-add-s : tie.Need-add-s Inv-loop μ-loop Inv-states μ-states
-add-s c = omega arith
+sub-left : tie.Need-sub-left Inv-loop μ-loop Inv-states μ-states
+sub-left c = omega arith
 
--- src/refuse.rt:209:5
 states-less : tie.Need-states-less Inv-loop μ-loop Inv-states μ-states
 states-less c = omega arith
 
--- src/refuse.rt:209:5
 states-again : tie.Need-states-again Inv-loop μ-loop Inv-states μ-states
 states-again c = (
   omega arith,
-  rw (c .before .before .before .loop .inv .0)
-      (below-more _ _
-      (c .before .before .before .before .before .states .inv .1)
-      (starts-one _ _ _
-      (c .before .before .loop-test .taken)
-      (sym (c .before .from .ensures) ∙ c .if1 .taken ∙ c .before .before .before .loop .inv .0))),
+  c .before .before .before .before .before .states .inv .1,
+  λ j h.
+      below-more _
+      (c .before .before .before .before .before .before .before .args .states - c .before .before .before .before .before .states .left)
+      (c .before .before .before .before .before .states .inv .2)
+      (starts-one _ _ _ (c .before .before .loop-test .taken) (sym (c .before .from .ensures) ∙ c .if1 .taken))
+      j
+      (omega arith),
 )
 
--- src/refuse.rt:216:13
 add-e : tie.Need-add-e Inv-loop μ-loop Inv-states μ-states
 add-e c = omega arith
 
--- src/refuse.rt:211:9
 loop-less : tie.Need-loop-less Inv-loop μ-loop Inv-states μ-states
 loop-less c = omega arith
 
--- src/refuse.rt:211:9
 loop-again : tie.Need-loop-again Inv-loop μ-loop Inv-states μ-states
 loop-again c = (
-  c .before .before .before .loop .inv .0,
+  omega arith,
   omega arith,
   below-more _ _
       (c .before .before .before .loop .inv .2)
-      (ne-eqb _ _ (λ p. c .if1 .left (c .before .from .ensures ∙ p ∙ sym (c .before .before .before .loop .inv .0)))),
+      (ne-eqb _ _ (λ p. c .if1 .left (c .before .from .ensures ∙ p))),
 )
 
--- src/refuse.rt:204:1
 returns : tie.Need-returns Inv-loop μ-loop Inv-states μ-states
-returns c = lowest-is _ _ _ (omega arith) (c .before .states .inv .1) (λ h. absurd (omega arith))
+returns c =
+    rw (c .before .states .inv .1)
+    (lowest-is _ _ _ (omega arith) (λ j h. c .before .states .inv .2 j (omega arith)) (λ h. absurd (omega arith)))
 
--- src/refuse.rt:204:1
 returns-2 : tie.Need-returns-2 Inv-loop μ-loop Inv-states μ-states
 returns-2 c =
-    rw (c .before .loop .inv .0)
-    (lowest-is _ _ _
+    lowest-is _ _ _
     (omega arith)
-    (c .before .before .before .states .inv .1)
-    (λ _. starts-none _ _ (λ e h. c .before .loop .inv .2 e (omega arith))))
+    (c .before .before .before .states .inv .2)
+    (λ _. starts-none _ _ (λ e h. c .before .loop .inv .2 e (omega arith)))
 
 pub lowest-dead-end-spec : {M : Type 1} → statement M
 lowest-dead-end-spec =
@@ -99,9 +94,10 @@ lowest-dead-end-spec =
     Inv-states
     μ-states
     states-holds
+    sub-s
     loop-holds
     from-requires
-    add-s
+    sub-left
     states-less
     states-again
     add-e

@@ -1,21 +1,17 @@
-use Rattle.reading.specs.Refusals.{outOfRange}
+-- `reading::refuse::out_of_range` meets its contract. By cases on the tests, in the definition's order. Assumes nothing.
 use borrow.Author.Tests.{lt-ltb, le-ltb}
+use Rattle.reading.specs.Refusals.{outOfRange}
 use Rattle.reading.proofs.refuse.out_of_range.Statement.{statement}
 use Rattle.reading.proofs.refuse.out_of_range.Tie as tie
-use Rattle.reading.proofs.refuse.out_of_range.Reads as reads
-use Rattle.reading.proofs.refuse.out_of_range.Lts as lts
 
--- src/refuse.rt:65:9
 returns : tie.Need-returns
 unfolding outOfRange
 returns c = simp (lt-ltb _ _ (c .if1 .taken))
 
--- src/refuse.rt:61:1
 returns-2 : tie.Need-returns-2
 unfolding outOfRange
 returns-2 c = simp (le-ltb _ _ (c .before .if1 .left), lt-ltb _ _ (c .if2 .taken))
 
--- src/refuse.rt:61:1
 returns-3 : tie.Need-returns-3
 unfolding outOfRange
 returns-3 c = simp (le-ltb _ _ (c .before .if1 .left), le-ltb _ _ (c .if2 .left))

@@ -1,37 +1,25 @@
-use Rattle.reading.specs.Refusals.{wrongByte}
+-- `reading::refuse::wrong_byte` meets its contract. By cases on the two tests. Assumes nothing.
 use borrow.Author.Tests.{le-leb, lt-leb}
 use borrow.Author.Needs.{needs}
+use Rattle.reading.specs.Refusals.{wrongByte}
 use Rattle.reading.proofs.refuse.wrong_byte.Statement.{statement}
 use Rattle.reading.proofs.refuse.wrong_byte.Tie as tie
-use Rattle.reading.proofs.refuse.wrong_byte.Reads as reads
-use Rattle.reading.proofs.refuse.wrong_byte.Lts as lts
-use Rattle.reading.proofs.parts.first.Reads as first-reads
-use Rattle.reading.proofs.parts.operator.Reads as operator-reads
-use Rattle.reading.proofs.parts.second.Reads as second-reads
-use Rattle.reading.proofs.refuse.first_limit.Reads as first-limit-reads
-use Rattle.reading.proofs.refuse.second_limit.Reads as second-limit-reads
 
--- src/refuse.rt:281:9
 operator-requires : tie.Need-operator-requires
 operator-requires c κs = search needs
 
--- src/refuse.rt:282:5
 first-limit-requires : tie.Need-first-limit-requires
 first-limit-requires c κs = search needs
 
--- src/refuse.rt:282:40
 first-requires : tie.Need-first-requires
 first-requires c κs = search needs
 
--- src/refuse.rt:282:65
 second-limit-requires : tie.Need-second-limit-requires
 second-limit-requires c κs = search needs
 
--- src/refuse.rt:282:94
 second-requires : tie.Need-second-requires
 second-requires c κs = search needs
 
--- src/refuse.rt:277:1
 returns : tie.Need-returns
 unfolding wrongByte
 returns c =
@@ -42,7 +30,6 @@ returns c =
       le-leb _ _ (c .if1 .taken),
     )
 
--- src/refuse.rt:277:1
 returns-2 : tie.Need-returns-2
 unfolding wrongByte
 returns-2 c =

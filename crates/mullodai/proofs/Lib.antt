@@ -1,0 +1,2 @@
+-- What is shown of the entries for C, for a stranger.
+pub mod Demands

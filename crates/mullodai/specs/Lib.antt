@@ -1,0 +1,2 @@
+-- What the entries for C answer.
+pub mod Outcomes
