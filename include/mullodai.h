@@ -17,7 +17,7 @@
  *   30  unknown operator                                                                      node
  *   31  an operand or an unused byte is wrong                                                 node
  *   32  more than 4 temporal operators (6 to 11)                                              their number
- *   42  no such state (where one state is asked for)                                          S
+ *   42  the state list is shorter than S; or, where one state is asked for, there is none     S
  *
  * States, edges, nodes and offsets are counted from 0.
  */
@@ -46,6 +46,24 @@ typedef struct {
 /* Reads one state, counted from 0, of the case of `length` bytes at `bytes`. The pointer must be valid for that many bytes (and
  * not null even where length is 0); it is only read. */
 mullodai_state_answer mullodai_state(const uint8_t *bytes, size_t length, uint64_t state);
+
+/* The answer of the entries that fill or search: the number, its place, and a run's stem and loop, 0 where the rules give none. */
+typedef struct {
+    uint64_t number, place, stem, loop;
+} mullodai_answer;
+
+/* The most records that a case fills. */
+#define MULLODAI_STATES_MOST 64
+
+/* Fills a lent list with the states of the case of `length` bytes at `bytes`.
+ *
+ * Success: number 0 and place S; the first S records of the list are the case's states, in order, and later ones are untouched.
+ * A refusal (10 to 32), or 42 with S where list_length is below S: nothing is written. Stem and loop are always 0.
+ *
+ * Both pointers must be valid for their lengths, not null even where a length is 0, and the two must not overlap; the bytes are
+ * only read. A list of MULLODAI_STATES_MOST records is enough for any case. Its records may hold anything before the call; the
+ * padding byte of a record is nobody's. */
+mullodai_answer mullodai_states(const uint8_t *bytes, size_t length, mullodai_state_record *list, size_t list_length);
 
 #ifdef __cplusplus
 }

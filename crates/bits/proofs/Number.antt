@@ -1,12 +1,12 @@
 -- The number made of some bits: it has these bits and is below 2 ^ w, and nothing else is. Adding cond b (2 ^ w) 0 to a number
 -- below 2 ^ w puts bit w. Assumes nothing.
-use Prim.Native.Nat.{ℕ, zero, suc, _+_, _-_, _*_, _/_, _%_, _^_, _≤_, _<_}
-use mathlib.Core.Path.{_≡_, refl, sym, ap, ap₂, _∙_}
+use Prim.Native.Nat.{ℕ, zero, suc, _+_, _*_, _/_, _%_, _^_, _<_}
+use mathlib.Core.Path.{_≡_, refl, sym, ap, _∙_}
 use mathlib.Core.Bool.{Bool, true, false, cond}
 use mathlib.Core.Logic.{⊎-elim}
 use native.Mathlib.Nat.{pow-suc, div-one, le-of-suc-le-suc, eq-or-lt-of-le}
 use native.Mathlib.Omega.{arith}
-use lib.Pow.{pow-pos, high, low}
+use lib.Pow.{high, low}
 use Rattle.bits.specs.Bits.{bit, number}
 use Rattle.bits.proofs.Bit.{digit, digit-bit, bit-digit, bit-suc, bit-mod}
 

@@ -1,7 +1,7 @@
 -- The machine's words bit by bit: `&`, `|`, `^`, and the complement 2 ^ w - 1 - x of a word of w bits. Each law goes by the
 -- operation on two digits, or by halving. Assumes nothing.
-use Prim.Native.Nat.{ℕ, zero, suc, _+_, _-_, _*_, _/_, _%_, _^_, _≤_, _<_}
-use mathlib.Core.Path.{_≡_, refl, sym, ap, ap₂, _∙_}
+use Prim.Native.Nat.{ℕ, zero, suc, _-_, _*_, _/_, _%_, _^_, _<_}
+use mathlib.Core.Path.{_≡_, refl, sym, ap, _∙_}
 use mathlib.Core.Bool.{Bool, true, false, not, xor, _&&_, _||_}
 use native.Mathlib.Nat.{pow-suc}
 use native.Mathlib.Omega.{arith}

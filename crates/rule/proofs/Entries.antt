@@ -1,10 +1,9 @@
 -- The value of the nodes at each entry of a looping shape, node after node: plain nodes compute, X reads the next entry, and the
 -- others take the two passes. Its bits, along the endless path, are a valuation: so a looping shape has one, over any labels.
 -- Assumes nothing.
-use Prim.Native.Nat.{ℕ, zero, suc, _+_, _*_, _-_, _^_, _≤_, _<_}
+use Prim.Native.Nat.{ℕ, zero, suc, _+_, _*_, _^_, _≤_, _<_}
 use mathlib.Core.Path.{_≡_, refl, sym, ap, ap₂, _∙_, subst, fun-ext}
-use mathlib.Core.Bool.{Bool, true, false, cond, not, _&&_, _||_}
-use mathlib.Core.Logic.{⊎-elim}
+use mathlib.Core.Bool.{Bool, cond, _&&_, _||_}
 use native.Mathlib.Nat.{mul-le-mul-left}
 use native.Mathlib.Omega.{arith}
 use lib.Dec.{T, eqb}
@@ -14,7 +13,7 @@ use Rattle.meaning.specs.Table.{Node}
 use Rattle.meaning.specs.Laws.{Ordered, plain, now, stay, greatest, kept, operands}
 use Rattle.meaning.specs.Runs.{position, endless}
 use Rattle.meaning.proofs.Truths.{T-along}
-use Rattle.meaning.proofs.Loops.{position-in, position-loop, position-repeats}
+use Rattle.meaning.proofs.Loops.{position-in, position-repeats}
 use Rattle.meaning.proofs.Valuation.{Valuation}
 use Rattle.rule.specs.Value.{truth, value}
 use Rattle.rule.proofs.Operands.{now-operands, stay-operands}

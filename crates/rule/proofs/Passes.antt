@@ -2,7 +2,7 @@
 -- entry down and carries v i = now i or (stay i and v (i+1)). The first, over the loop with the pole as its seed, gives the truth at
 -- entry k, and the second, over all entries, takes that for its seed: around the loop a pass is seed ↦ A or (B and seed), so a
 -- second round changes nothing. Shown: the law at every entry, the closing one too, and that it is kept in the loop. Assumes nothing.
-use Prim.Native.Nat.{ℕ, zero, suc, _+_, _*_, _-_, _%_, _≤_, _<_}
+use Prim.Native.Nat.{ℕ, zero, suc, _+_, _-_, _≤_, _<_}
 use mathlib.Core.Path.{_≡_, refl, sym, ap, ap₂, _∙_}
 use mathlib.Core.Bool.{Bool, true, false, cond, not, _&&_, _||_}
 use mathlib.Core.Logic.{_⊎_, inl, inr, ⊎-elim}

@@ -1,8 +1,8 @@
 -- Entries along the endless path of a stem of k and a loop of m, m at least 1: each is below k+m, after the last comes entry k, the
 -- entry after a position's is the next position's, and turns of the loop change nothing. Assumes nothing.
 use Prim.Native.Nat.{ℕ, zero, suc, _+_, _*_, _-_, _%_, _≤_, _<_}
-use mathlib.Core.Path.{_≡_, refl, sym, ap, _∙_}
-use native.Mathlib.Nat.{mod-self, mod-lt, suc-mod, add-assoc, suc-mul, zero-mul, add-zero}
+use mathlib.Core.Path.{_≡_, sym, ap, _∙_}
+use native.Mathlib.Nat.{mod-self, mod-lt, suc-mod, add-assoc, suc-mul}
 use native.Mathlib.Decide.{decLt}
 use native.Mathlib.Omega.{arith}
 use Rattle.meaning.specs.Runs.{position}

@@ -1,0 +1,142 @@
+-- What is known of a case and a run that nothing refuses: the run is one of the table's, the scratch has room, and the nodes' bytes are
+-- bits of an entry, so that the truth of each node can be told. Assumes nothing.
+use Prim.Native.Nat.{ℕ, suc, _+_, _-_, _≤_, _<_}
+use mathlib.Core.Path.{_≡_, refl, sym, ap, _∙_, subst}
+use mathlib.Core.Bool.{Bool, true, false, cond, not, true≢false, _||_}
+use mathlib.Core.List.{List}
+use native.Mathlib.Nat.{lt-of-lt-of-le}
+use native.Mathlib.Omega.{arith}
+use lib.Dec.{T, leb, ltb, eqb}
+use lib.ListN.{length, getD}
+use borrow.Author.Tests.{leb-false, ltb-false, eqb-false, not-false}
+use Rattle.meaning.specs.Table.{Table}
+use Rattle.meaning.specs.Laws.{operands}
+use Rattle.meaning.specs.Runs.{position, Run}
+use Rattle.meaning.proofs.Truths.{T-along}
+use Rattle.meaning.proofs.Loops.{position-in}
+use Rattle.rule.proofs.Positions.{position-closes}
+use Rattle.reading.specs.Parts.{nodeOf, nodeCount}
+use Rattle.reading.specs.Refusals.{nodesRefusal, unknown, wrongByte, firstLimit, secondLimit}
+use Rattle.reading.specs.declared.Check as CaseCheck
+use Rattle.reading.specs.declared.CaseRefusal.the-variants.{Operator, Operand}
+use Rattle.reading.specs.Lowest.{any}
+use Rattle.reading.proofs.Lowest.{any-false}
+use Rattle.reading.proofs.Facts.{nowhere}
+use Rattle.judge.specs.declared.RunRefusal.{RunRefusal}
+use Rattle.judge.specs.declared.RunCheck.{RunCheck}
+use Rattle.judge.specs.declared.RunCheck.the-variants.{Passed}
+use Rattle.judge.specs.Refusals.{refusedIf, outside, gap, storedRefusal, runRefusal}
+use Rattle.judge.specs.Inner.{width}
+
+-- ---- a row that did not refuse, and the later ones
+
+not-refused : (b : Bool) (r : RunRefusal) (later : RunCheck) → refusedIf b r later ≡ Passed → (b ≡ false) × (later ≡ Passed)
+not-refused false r later e = (refl, e)
+not-refused true r later e = absurd (omega (arith, clash))
+  where
+    clash : _≡_ {A = ℕ} 0 1
+    clash = cc
+
+-- what the six rows leave
+pub record Free (t : Table) (track : List ℕ) (k m room : ℕ) : Type 0 where
+  pub loops : eqb m 0 ≡ false
+  pub held : ltb (length track) (k + m) ≡ false
+  pub none-outside : any (outside t track) (k + m) ≡ false
+  pub first-initial : not (t .initial (getD track 0 0)) ≡ false
+  pub no-gap : any (gap t track k m) (k + m) ≡ false
+  pub room-enough : ltb room (k + m) ≡ false
+
+pub free : (t : Table) (track : List ℕ) (k m room : ℕ) → runRefusal t track k m room ≡ Passed → Free t track k m room
+unfolding runRefusal storedRefusal
+free t track k m room passed =
+    let by-50 = not-refused (eqb m 0) _ _ passed in
+    let by-51 = not-refused (ltb (length track) (k + m)) _ _ (by-50 .1) in
+    let by-52 = not-refused (any (outside t track) (k + m)) _ _ (by-51 .1) in
+    let by-53 = not-refused (not (t .initial (getD track 0 0))) _ _ (by-52 .1) in
+    let by-54 = not-refused (any (gap t track k m) (k + m)) _ _ (by-53 .1) in
+    let by-40 = not-refused (ltb room (k + m)) _ _ (by-54 .1) in
+    record {
+      loops = by-50 .0;
+      held = by-51 .0;
+      none-outside = by-52 .0;
+      first-initial = by-53 .0;
+      no-gap = by-54 .0;
+      room-enough = by-40 .0;
+    }
+
+module _ {t : Table} {track : List ℕ} {k m room : ℕ} (f : Free t track k m room) where
+  loop : 1 ≤ m
+  loop = pos m (eqb-false m 0 (f .loops))
+    where
+      pos : (n : ℕ) → (n ≡ 0 → ⊥) → 1 ≤ n
+      pos n h = omega arith
+
+  step : (i : ℕ) → i < k + m → T (t .edge (getD track i 0) (getD track (position k m (suc i)) 0))
+  step i h =
+      T-along
+      (sym
+      (not-false (t .edge (getD track i 0) (getD track (position k m (suc i)) 0))
+      (any-false (gap t track k m) (k + m) (f .no-gap) i h)))
+      tt
+
+  -- the run is one of the table's
+  pub free-run : Run t track k m
+  free-run =
+      record {
+        loops = loop;
+        stored = ltb-false (length track) (k + m) (f .held);
+        states = λ i h. leb-false (t .states) (getD track i 0) (any-false (outside t track) (k + m) (f .none-outside) i h);
+        begins = T-along (sym (not-false (t .initial (getD track 0 0)) (f .first-initial))) tt;
+        steps = λ i h.
+            subst (λ (p : ℕ). T (t .edge (getD track i 0) (getD track p 0))) (position-in k m (suc i) h) (step i (omega arith));
+        closes =
+            subst (λ (p : ℕ). T (t .edge (getD track (k + m - 1) 0) (getD track p 0)))
+            (ap (position k m) last ∙ position-closes k m loop) (step (k + m - 1) (omega (arith, loop)));
+      }
+    where
+      last : suc (k + m - 1) ≡ k + m
+      last = omega (arith, loop)
+
+  pub free-room : k + m ≤ room
+  free-room = ltb-false room (k + m) (f .room-enough)
+
+-- ---- the nodes' bytes
+
+none-of : (a b : Bool) → (a || b) ≡ false → (a ≡ false) × (b ≡ false)
+none-of false b e = (refl, e)
+none-of true b e = absurd (true≢false e)
+
+limit-narrow : (c d : Bool) (a n : ℕ) → a ≤ 16 → n ≤ width → cond c a (cond d n 1) ≤ width
+limit-narrow true d a n ha hn = omega arith
+limit-narrow false true a n ha hn = omega arith
+limit-narrow false false a n ha hn = omega arith
+
+module _ (atoms : ℕ) (nodes : List ℕ) (passed : nodesRefusal atoms nodes ≡ CaseCheck.Check.Passed) (few-atoms : atoms ≤ 16)
+    (few-nodes : nodeCount nodes ≤ width) (n : ℕ) (h : n < nodeCount nodes) where
+  right : wrongByte atoms nodes n ≡ false
+  unfolding nodesRefusal
+  right =
+      none-of (unknown nodes n) (wrongByte atoms nodes n)
+      (nowhere (λ x. unknown nodes x || wrongByte atoms nodes x) (nodeCount nodes)
+      (λ x. cond (unknown nodes x) (Operator x) (Operand x)) passed n h)
+      .1
+
+  limits : (leb (firstLimit (nodeOf nodes n .operator) atoms n) (nodeOf nodes n .first) ≡ false)
+      × (leb (secondLimit (nodeOf nodes n .operator) n) (nodeOf nodes n .second) ≡ false)
+  unfolding wrongByte
+  limits = none-of _ _ right
+
+  first-limit : firstLimit (nodeOf nodes n .operator) atoms n ≤ width
+  unfolding firstLimit
+  first-limit =
+      limit-narrow (eqb (nodeOf nodes n .operator) 1) (leb 1 (operands (nodeOf nodes n .operator))) atoms n few-atoms (omega arith)
+
+  second-limit : secondLimit (nodeOf nodes n .operator) n ≤ width
+  unfolding secondLimit
+  second-limit = limit-narrow false (leb 2 (operands (nodeOf nodes n .operator))) 0 n (omega arith) (omega arith)
+
+  pub first-narrow : nodeOf nodes n .first < width
+  first-narrow = lt-of-lt-of-le (leb-false _ _ (limits .0)) first-limit
+
+  pub second-narrow : nodeOf nodes n .second < width
+  second-narrow = lt-of-lt-of-le (leb-false _ _ (limits .1)) second-limit
