@@ -5,3 +5,4 @@ pub mod Demands
 pub mod DemandsStates
 pub mod DemandsJudge
 pub mod ConstantJudge
+pub mod DemandsSearch

@@ -14,6 +14,9 @@ use Rattle.reading.specs.declared.StateRecord.{StateRecord}
 use Rattle.reading.specs.declared.StateAnswer as reading
 use Rattle.judge.specs.Judged.{Judged, answerNumber, answerPlace}
 use Rattle.judge.specs.declared.Answer as judge
+use Rattle.search.specs.Answers.{number, place, stem, loop}
+use Rattle.search.specs.Outcome.{Searched}
+use Rattle.search.specs.declared.SearchAnswer.{SearchAnswer}
 use Rattle.mullodai.specs.declared.StateAnswer.{StateAnswer}
 use Rattle.mullodai.specs.declared.Answer.{Answer}
 
@@ -69,3 +72,11 @@ StatesOutcome bytes list answer list′ =
 abbrev pub JudgeOutcome : (bytes track : List ℕ) (k m : ℕ) (scratch : List ℕ) → Answer → List ℕ → Type 0
 JudgeOutcome bytes track k m scratch answer scratch′ =
     (a : judge.Answer) × Judged bytes track k m scratch a scratch′ × (answer ≡ answerAt (answerNumber a) (answerPlace a))
+
+-- The search: the number, the place, k and m of an answer that the search may give, with the workspace and the track that it then leaves
+abbrev pub searchAnswer : SearchAnswer → Answer
+searchAnswer a = record { number = number a; place = place a; stem = stem a; repeat = loop a }
+
+abbrev pub SearchOutcome : (bytes workspace track : List ℕ) → Answer → (workspace′ track′ : List ℕ) → Type 0
+SearchOutcome bytes workspace track answer workspace′ track′ =
+    (a : SearchAnswer) × Searched bytes workspace track a workspace′ track′ × (answer ≡ searchAnswer a)

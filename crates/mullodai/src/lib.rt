@@ -6,8 +6,9 @@ ghost use lib.Dec.{eqb};
 ghost use Rattle.reading.specs.Refusals.{partsOf, refusal};
 ghost use Rattle.reading.specs.Answers.{recordOf};
 ghost use Rattle.reading.specs.declared.Check.{Check};
-ghost use Rattle.mullodai.specs.Outcomes.{StateOutcome, withoutRecord, StatesOutcome, statesAnswer, answerAt, JudgeOutcome};
+ghost use Rattle.mullodai.specs.Outcomes.{StateOutcome, withoutRecord, StatesOutcome, statesAnswer, answerAt, JudgeOutcome, SearchOutcome, searchAnswer};
 use reading::StateRecord;
+use search::SearchAnswer;
 
 // One state of a case: the number of the table, 0 on success; the place; and the record, all 0 on a refusal.
 #[repr(C)]
@@ -88,6 +89,36 @@ pub extern "C" fn mullodai_judge(
 {
     let answer = judge::judge(bytes, track, k, m, scratch);
     answer_at(judge::number(answer), judge::place(answer))
+}
+
+// Searches for a run that breaks the case's rule: 0 holds; 1 violated, with the run in the track and its stem and loop.
+#[no_mangle]
+pub extern "C" fn mullodai_search(bytes: &[u8], workspace: &mut [u16], track: &mut [u16]) -> Answer
+    ensures { λ r. ⌜ SearchOutcome (now (bytes .entry)) (now (workspace .entry)) (now (track .entry)) r (now (workspace .exit)) (now (track .exit)) ⌝ }
+{
+    search_answer(search::search(bytes, workspace, track))
+}
+
+const WORKSPACE_TOO_SHORT: usize = 40;
+
+const TRACK_TOO_SHORT: usize = 41;
+
+// The search's answer as a struct.
+fn search_answer(answer: SearchAnswer) -> Answer
+    ensures { λ r. ⌜ r ≡ searchAnswer answer ⌝ }
+{
+    match answer {
+        SearchAnswer::Refused(r) => answer_at(reading::number(r), reading::place(r)),
+        SearchAnswer::Workspace(entries) => answer_at(WORKSPACE_TOO_SHORT, entries),
+        SearchAnswer::Track(entries) => answer_at(TRACK_TOO_SHORT, entries),
+        SearchAnswer::Holds => answer_at(0, 0),
+        SearchAnswer::Violated { stem, repeat } => Answer {
+            number: 1,
+            place: 0,
+            stem: stem as u64,
+            repeat: repeat as u64,
+        },
+    }
 }
 
 const LIST_TOO_SHORT: usize = 42;

@@ -1,0 +1,109 @@
+-- `search::turns::leave` meets its contract: blue where the place is not marked; red after an inner search that met nothing. Assumes nothing.
+use Prim.Native.Nat.{ℕ, suc}
+use native.Mathlib.Omega.{arith}
+use mathlib.Core.Path.{sym, _∙_, subst}
+use mathlib.Core.List.{List}
+use Rattle.workspace.proofs.Views.{Kept}
+use Rattle.workspace.proofs.ViewsIn.{OuterOn}
+use Rattle.workspace.proofs.InnerTurnsIn.{top-paints, paint-kept, left-blue, red-paints, red-kept, left-red}
+use Rattle.search.proofs.Cases.{back-deeper, back-met, met-deeper, met-back}
+use borrow.Author.Needs.{needs}
+use Rattle.search.proofs.turns.leave.Statement.{statement}
+use Rattle.search.proofs.turns.leave.Tie as tie
+
+waiting-requires : tie.Need-waiting-requires
+waiting-requires c κs = search needs
+
+paint-requires : tie.Need-paint-requires
+paint-requires c κs = top-paints (c .before .before .before .before .before .before .pre .0) (c .before .before .before .before .before .before .pre .3)
+
+same-length : tie.Need-same-length
+same-length c = search needs
+
+returns : tie.Need-returns
+returns c =
+    let s = c .before .before .before .before .before .before .before .before .before in
+    let ws = s .args .workspace .now in
+    let on = c .before .before .paint .ensures in (
+      subst (λ (l : List ℕ). Kept (s .args .sizes .places) ws l) (sym on) (paint-kept (s .pre .0) (s .pre .3) 1),
+      (
+        λ e. back-deeper e,
+        (
+          λ x r d l e.
+              subst (λ (k : List ℕ). OuterOn x r ws (suc d) k d) (sym on) (left-blue x l (omega (arith, c .before .before .before .before .if1 .taken, c .before .before .before .before .before .before .waiting .ensures))),
+          λ x r d l i a e. back-met i a e,
+        ),
+      ),
+    )
+
+inner-search-requires : tie.Need-inner-search-requires
+inner-search-requires c κs = (c .before .before .before .before .before .before .pre, omega (arith, c .before .if1 .left, c .before .before .before .waiting .ensures))
+
+enum-known-inner : tie.Need-enum-known-inner
+enum-known-inner c = search needs
+
+enum-told : tie.Need-enum-told
+enum-told c = search needs
+
+paint-requires-2 : tie.Need-paint-requires-2
+paint-requires-2 c κs = red-paints (c .before .before .before .before .before .before .before .before .before .before .before .before .pre .0) (c .before .before .before .before .before .before .before .before .before .before .before .before .pre .3) (c .before .before .before .before .before .inner-search .ensures .0)
+
+enum-told-2 : tie.Need-enum-told-2
+enum-told-2 c = search needs
+
+same-length-2 : tie.Need-same-length-2
+same-length-2 c = search needs
+
+returns-2 : tie.Need-returns-2
+returns-2 c =
+    let on = c .before .before .before .before .before .inner-search .ensures in
+    (on .0, (λ e. met-deeper _ _ e, (λ x r d l e. met-back _ _ e, λ x r d l i a e. on .1 .1 .1 x r d l i a (c .before .inner .given .1 ∙ e))))
+
+same-length-3 : tie.Need-same-length-3
+same-length-3 c = search needs
+
+returns-3 : tie.Need-returns-3
+returns-3 c =
+    let s = c .before .before .before .before .before .before .before .before .before .before .before .before .before .before .before in
+    let ws = s .args .workspace .now in
+    let on = c .before .before .before .before .before .before .before .before .inner-search .ensures in
+    let last = c .before .before .paint2 .ensures in (
+      subst (λ (l : List ℕ). Kept (s .args .sizes .places) ws l) (sym last) (red-kept (s .pre .0) (s .pre .3) (on .0)),
+      (
+        λ e. back-deeper e,
+        (
+          λ x r d l e.
+              subst (λ (k : List ℕ). OuterOn x r ws (suc d) k d) (sym last) (left-red x l (on .1 .1 .0 x r d l (c .before .before .before .before .enum-told .given .1))),
+          λ x r d l i a e. back-met i a e,
+        ),
+      ),
+    )
+
+same-length-4 : tie.Need-same-length-4
+same-length-4 c = search needs
+
+returns-4 : tie.Need-returns-4
+returns-4 c =
+    let on = c .before .before .before .before .inner-search .ensures in
+    let never = on .1 .0 (c .enum-told2 .given .1) in
+    (on .0, (λ e. never, (λ x r d l e. absurd never, λ x r d l i a e. absurd never)))
+
+pub leave-spec : {M : Type 1} → statement M
+leave-spec =
+    tie.close
+    (tie.spec
+    waiting-requires
+    paint-requires
+    same-length
+    returns
+    inner-search-requires
+    enum-known-inner
+    enum-told
+    paint-requires-2
+    enum-told-2
+    same-length-2
+    returns-2
+    same-length-3
+    returns-3
+    same-length-4
+    returns-4)

@@ -1,0 +1,23 @@
+-- What the workspace of a search holds, and the graph of a case.
+pub mod Setting
+pub mod Case
+pub mod Edges
+pub mod Bridges
+pub mod Roots
+pub mod Scanning
+pub mod Trailing
+pub mod Passing
+pub mod Fitting
+pub mod Candidates
+pub mod Found
+pub mod Tops
+pub mod Views
+pub mod Stores
+pub mod Turns
+pub mod InnerTurns
+pub mod RootTurns
+pub mod ViewsIn
+pub mod TurnsIn
+pub mod InnerTurnsIn
+pub mod RootTurnsIn
+pub mod Tracks

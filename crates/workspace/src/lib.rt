@@ -1,0 +1,1 @@
+// What the workspace of a search holds: theory only, no code.
