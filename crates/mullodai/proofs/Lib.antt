@@ -1,8 +1,9 @@
--- What is shown of the entries for C: below the proofs of the functions, and in `Demands…` for a stranger.
+-- What is shown of the entries for C. Read `Demands` first.
+pub mod Demands
+pub mod OneState
+pub mod StateList
+pub mod Judge
+pub mod WrongJudge
+pub mod Search
 pub mod StateLists
 pub mod Frame
-pub mod Demands
-pub mod DemandsStates
-pub mod DemandsJudge
-pub mod ConstantJudge
-pub mod DemandsSearch

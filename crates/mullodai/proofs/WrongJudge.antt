@@ -19,7 +19,7 @@ use Rattle.judge.specs.declared.RunCheck.{RunCheck}
 use Rattle.judge.proofs.Passed.{free, free-run}
 use Rattle.mullodai.specs.Outcomes.{answerAt, JudgeOutcome}
 use Rattle.mullodai.specs.declared.Answer.{Answer}
-use Rattle.mullodai.proofs.DemandsJudge.{violates-is-1, satisfies-is-0}
+use Rattle.mullodai.proofs.Judge.{violates-is-1, satisfies-is-0}
 
 -- M1: one state p with an edge to itself; the rule G p; the run that stays there
 unfoldable pub m1 : List ℕ

@@ -1,4 +1,4 @@
--- What the exported judge promises, once more for a stranger. `JudgeOutcome` is, by name, the whole `ensures` of
+-- What the exported judge promises. `JudgeOutcome` is, by name, the whole `ensures` of
 -- `mullodai_judge`; each line below speaks of any answer r, with the scratch then left, that it allows. Assumes nothing.
 use Prim.Native.Nat.{ℕ, zero, suc, _+_, _≤_, _<_}
 use mathlib.Core.Path.{_≡_, refl, sym, ap, ap₂, subst, _∙_}
@@ -104,6 +104,15 @@ module _ (bytes track : List ℕ) (k m : ℕ) (scratch : List ℕ) (r : Answer) 
           sym (ap (λ (x : Answer). x .number) (s ∙ ap (λ (x : judge.Answer). answerAt (answerNumber x) (answerPlace x)) (p .0))) ∙ e in
           absurd (omega arith))
           (t .verdict)
+
+      pub verdict-1 : (r .number ≡ 1) ↔ Violates (tableOf (partsOf bytes)) (ruleOf (partsOf bytes)) track k m
+      verdict-1 = (1-is-violates, λ v. ap (λ (x : Answer). x .number) (violates-is-1 v))
+
+      pub verdict-0 : (r .number ≡ 0) ↔ (Violates (tableOf (partsOf bytes)) (ruleOf (partsOf bytes)) track k m → ⊥)
+      verdict-0 = (
+        λ z v. let e : r .number ≡ 1 = ap (λ (x : Answer). x .number) (violates-is-1 v) in omega arith,
+        λ f. ap (λ (x : Answer). x .number) (satisfies-is-0 f),
+      )
 
       -- the first k+m scratch entries are 0, the rest untouched
       pub scratch-cleared : after ≡ replicate (k + m) 0 ++ drop (k + m) scratch

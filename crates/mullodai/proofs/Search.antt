@@ -1,4 +1,4 @@
--- What the exported search promises, once more for a stranger. `SearchOutcome` is, by name, the whole `ensures` of
+-- What the exported search promises. `SearchOutcome` is, by name, the whole `ensures` of
 -- `mullodai_search`; each line below speaks of any answer r, with the workspace and the track then left, that it allows. Assumes nothing.
 use Prim.Native.Nat.{ℕ, zero, suc, _+_, _-_, _*_, _≤_, _<_}
 use mathlib.Core.Path.{_≡_, refl, sym, ap, subst, _∙_}
@@ -7,9 +7,9 @@ use mathlib.Core.List.{List, [], _∷_, _++_}
 use mathlib.Core.Logic.{_⊎_, inl, inr, ⊎-elim, _↔_}
 use native.Mathlib.Omega.{arith}
 use native.Mathlib.Decide.{decLt}
-use lib.Dec.{T}
+use lib.Dec.{T, ltb}
 use lib.ListN.{length, getD, drop, replicate}
-use borrow.Author.Tests.{le-ltb, lt-leb, ne-eqb}
+use borrow.Author.Tests.{lt-ltb, le-ltb, lt-leb, ne-eqb}
 use Rattle.meaning.specs.Runs.{Run, Violates, Holds, position}
 use Rattle.meaning.specs.Table.{Table}
 use Rattle.meaning.proofs.Loops.{position-in}
@@ -18,19 +18,22 @@ use Rattle.reading.specs.Lowest.{any}
 use Rattle.reading.specs.Parts.{tableOf, ruleOf, places}
 use Rattle.reading.specs.Refusals.{partsOf, refusal}
 use Rattle.reading.specs.Night.{night}
+use Rattle.reading.specs.Answers.{numberOf, placeOf}
+use Rattle.reading.specs.declared.CaseRefusal.{CaseRefusal}
+use Rattle.reading.specs.declared.Check.{Check}
 use Rattle.reading.specs.declared.Check.the-variants.{Passed, Refused}
 use Rattle.reading.proofs.Lowest.{any-none}
 use Rattle.judge.specs.Refusals.{outside, gap, storedRefusal, runRefusal}
 use Rattle.judge.specs.declared.RunCheck.{RunCheck}
 use Rattle.workspace.proofs.Case.{T-is-true}
 use Rattle.search.specs.Answers.{number, place, stem, loop}
-use Rattle.search.specs.Outcome.{Searched, Decides, workspaceNeeds, trackNeeds, cleared}
+use Rattle.search.specs.Outcome.{Searched, Reads, Searches, Refuses, Decides, workspaceNeeds, trackNeeds, cleared}
 use Rattle.search.specs.declared.SearchAnswer.{SearchAnswer}
 use Rattle.search.proofs.Outcomes.{Agree, searched-agree, searched-decides, decides-exactly}
 use Rattle.search.proofs.Night.{nightWithout, night-violated, night-written, night-short, without-held}
 use Rattle.mullodai.specs.Outcomes.{answerAt, JudgeOutcome, SearchOutcome, searchAnswer}
 use Rattle.mullodai.specs.declared.Answer.{Answer}
-use Rattle.mullodai.proofs.DemandsJudge.{violates-is-1}
+use Rattle.mullodai.proofs.Judge.{violates-is-1}
 
 -- rows 50 to 54 and 40 pass a run of the table that the scratch has room for
 run-passes : (t : Table) (track : List ℕ) (k m room : ℕ) → Run t track k m → k + m ≤ room → runRefusal t track k m room ≡ RunCheck.Passed
@@ -73,6 +76,49 @@ one-search-outcome bytes workspace track r r′ ws₁ track₁ ws₂ track₂ (a
     )
 
 module _ (bytes workspace track : List ℕ) (r : Answer) (workspace′ track′ : List ℕ)
+    (allowed : SearchOutcome bytes workspace track r workspace′ track′) where
+  -- both buffers are as they were lent
+  abbrev pub As-lent : Type 0
+  As-lent = (workspace′ ≡ workspace) × (track′ ≡ track)
+
+  as-refused : (a q : SearchAnswer) → r ≡ searchAnswer a → Refuses workspace track a workspace′ track′ q → (r ≡ searchAnswer q) × As-lent
+  as-refused a q e f = (e ∙ ap searchAnswer (f .answered), (f .workspace-as-lent, f .track-as-lent))
+
+  -- of a refused case: the refusal's number and place, and both buffers as they were lent
+  pub case-refused : (q : CaseRefusal) → refusal bytes ≡ Refused q → (r ≡ answerAt (numberOf q) (placeOf q)) × As-lent
+  unfolding Searched
+  case-refused q e =
+      let (a, s, same) = allowed in
+      as-refused a (SearchAnswer.Refused q) same
+      (subst (λ (c : Check). Reads c (partsOf bytes) workspace track a workspace′ track′) e s)
+
+  -- of a case that is read: 40 and 6·P where the workspace is shorter, then 41 and 2·P where the track is
+  pub workspace-short : refusal bytes ≡ Passed → length workspace < 6 * places (partsOf bytes)
+      → (r ≡ answerAt 40 (6 * places (partsOf bytes))) × As-lent
+  unfolding Searched
+  workspace-short e h =
+      let (a, s, same) = allowed in
+      as-refused a (SearchAnswer.Workspace (workspaceNeeds (partsOf bytes))) same
+      (subst
+      (λ (b : Bool). Searches b (ltb (length track) (trackNeeds (partsOf bytes))) (partsOf bytes) workspace track a workspace′ track′)
+      (lt-ltb (length workspace) (workspaceNeeds (partsOf bytes)) h)
+      (subst (λ (c : Check). Reads c (partsOf bytes) workspace track a workspace′ track′) e s))
+
+  pub track-short : refusal bytes ≡ Passed → 6 * places (partsOf bytes) ≤ length workspace → length track < 2 * places (partsOf bytes)
+      → (r ≡ answerAt 41 (2 * places (partsOf bytes))) × As-lent
+  unfolding Searched
+  track-short e w h =
+      let (a, s, same) = allowed in
+      as-refused a (SearchAnswer.Track (trackNeeds (partsOf bytes))) same
+      (subst
+      (λ (b : Bool). Searches false b (partsOf bytes) workspace track a workspace′ track′)
+      (lt-ltb (length track) (trackNeeds (partsOf bytes)) h)
+      (subst
+      (λ (b : Bool). Searches b (ltb (length track) (trackNeeds (partsOf bytes))) (partsOf bytes) workspace track a workspace′ track′)
+      (le-ltb (length workspace) (workspaceNeeds (partsOf bytes)) w)
+      (subst (λ (c : Check). Reads c (partsOf bytes) workspace track a workspace′ track′) e s)))
+
+module _ (bytes workspace track : List ℕ) (r : Answer) (workspace′ track′ : List ℕ)
     (allowed : SearchOutcome bytes workspace track r workspace′ track′)
     (read : refusal bytes ≡ Passed)
     (room : 6 * places (partsOf bytes) ≤ length workspace)
@@ -89,6 +135,28 @@ module _ (bytes workspace track : List ℕ) (r : Answer) (workspace′ track′ 
       let exactly = decides-exactly (partsOf bytes) workspace track a workspace′ track′ d in
       let same : r .number ≡ number a = ap (λ (x : Answer). x .number) e in
       (λ q. exactly .0 (sym same ∙ q), λ h. same ∙ exactly .1 h)
+
+  -- after a verdict the first 6·P workspace entries are 0 and later ones untouched
+  pub workspace-cleared : workspace′ ≡ replicate (6 * places (partsOf bytes)) 0 ++ drop (6 * places (partsOf bytes)) workspace
+  workspace-cleared = let (a, d, e) = decided in go a d
+    where
+      go : (a : SearchAnswer) → Decides (partsOf bytes) workspace track a workspace′ track′ → workspace′ ≡ cleared (partsOf bytes) workspace
+      go (SearchAnswer.Refused q) d = absurd d
+      go (SearchAnswer.Workspace n) d = absurd d
+      go (SearchAnswer.Track n) d = absurd d
+      go SearchAnswer.Holds d = d .workspace-cleared
+      go (SearchAnswer.Violated k m) d = d .workspace-cleared
+
+  -- after holds the track is untouched
+  pub track-untouched : r .number ≡ 0 → track′ ≡ track
+  track-untouched z = let (a, d, e) = decided in go a d (sym (ap (λ (x : Answer). x .number) e) ∙ z)
+    where
+      go : (a : SearchAnswer) → Decides (partsOf bytes) workspace track a workspace′ track′ → number a ≡ 0 → track′ ≡ track
+      go (SearchAnswer.Refused q) d n = absurd d
+      go (SearchAnswer.Workspace n) d o = absurd d
+      go (SearchAnswer.Track n) d o = absurd d
+      go SearchAnswer.Holds d n = d .track-untouched
+      go (SearchAnswer.Violated k m) d n = absurd (omega arith)
 
   -- otherwise 1, and a run that breaks it is written out, with its k and m
   broken : (a : SearchAnswer) → Decides (partsOf bytes) workspace track a workspace′ track′
