@@ -11,7 +11,7 @@ use lib.Pow.{pow-mono}
 use borrow.Author.Tests.{ne-eqb}
 use Rattle.meaning.specs.Runs.{Run}
 use Rattle.meaning.specs.Table.{Table}
-use Rattle.reading.specs.Admitted.{Admitted}
+use Rattle.reading.proofs.Admitted.{Admitted}
 use Rattle.reading.specs.Answers.{numberOf, placeOf}
 use Rattle.reading.specs.Parts.{Parts, places}
 use Rattle.reading.specs.Refusals.{partsOf, refusal}

@@ -10,7 +10,7 @@ use mathlib.Core.List.{List}
 use lib.ListN.{length, getD, set}
 use lib.Seq.{getD-set-same, getD-set-other}
 use Rattle.reading.specs.Parts.{Parts, edgeCount, fromOf}
-use Rattle.reading.specs.Admitted.{Admitted}
+use Rattle.reading.proofs.Admitted.{Admitted}
 use Rattle.product.proofs.Lanes.{Starts}
 use Rattle.filled.proofs.Filling.{Leaving, Skipped, Parted, Started}
 

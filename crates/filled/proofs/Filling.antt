@@ -9,7 +9,7 @@ use Rattle.bits.specs.Bits.{bit}
 use Rattle.meaning.specs.Table.{Table, Node}
 use Rattle.meaning.specs.Laws.{operands}
 use Rattle.reading.specs.Parts.{Parts, labelOf, nodeOf, nodeCount, edgeCount, fromOf}
-use Rattle.reading.specs.Admitted.{Admitted}
+use Rattle.reading.proofs.Admitted.{Admitted}
 use Rattle.product.specs.Product.{temporal, promised, meets, carried}
 use Rattle.product.proofs.Lanes.{Words16, Rows, Lanes, needs, fails}
 use Rattle.filled.proofs.Lane.{Lane}

@@ -14,7 +14,7 @@ use borrow.Author.Tests.{le-leb, lt-leb, leb-true}
 use Rattle.meaning.specs.Table.{Node}
 use Rattle.reading.specs.Lowest.{count}
 use Rattle.reading.specs.Parts.{labelOf, nodeOf, nodeCount, tableOf, operatorFrom, operatorsFrom, temporals}
-use Rattle.reading.specs.Admitted.{Admitted}
+use Rattle.reading.proofs.Admitted.{Admitted}
 use Rattle.product.specs.Product.{nodesFrom, temporal, promised}
 use Rattle.product.proofs.Nodes.{nodesFrom-length, nodesFrom-counts}
 use Rattle.filled.proofs.Filling.{Filling, Counted, Ready, Stated}

@@ -16,7 +16,7 @@ use Rattle.meaning.proofs.Verdicts.{violates-by-valuation}
 use Rattle.rule.proofs.Entries.{entries, entries-valuation}
 use Rattle.reading.specs.Parts.{Parts, tableOf, ruleOf, nodeOf, nodeCount}
 use Rattle.reading.specs.Refusals.{partsOf, refusal}
-use Rattle.reading.specs.Admitted.{Admitted}
+use Rattle.reading.proofs.Admitted.{Admitted}
 use Rattle.reading.specs.declared.Check.{Check}
 use Rattle.reading.specs.declared.CaseRefusal.{CaseRefusal}
 use Rattle.reading.proofs.Known.{passed-parts, rows-passed, admitted}

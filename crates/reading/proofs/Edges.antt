@@ -11,7 +11,7 @@ use lib.Dec.{T, eqb}
 use borrow.Author.Tests.{eqb-true, eq-eqb}
 use Rattle.reading.specs.Lowest.{lowest}
 use Rattle.reading.specs.Parts.{Parts, edgeCount, fromOf, toOf, hasEdge}
-use Rattle.reading.specs.Admitted.{Admitted}
+use Rattle.reading.proofs.Admitted.{Admitted}
 use Rattle.reading.proofs.Lowest.{any-found, any-true, lowest-found}
 use Rattle.reading.proofs.Fields.{and-first, and-second}
 

@@ -10,7 +10,7 @@ use lib.ListN.{length, length-take, length-drop}
 use borrow.Author.Tests.{ltb-false}
 use Rattle.reading.specs.Parts.{Parts, edgeCount, nodeCount, temporals, eventualities}
 use Rattle.reading.specs.Refusals.{lengthAt, at03, at04, partsOf, statesRefusal, edgesRefusal, deadEndRefusal, nodesRefusal, temporalsRefusal, partsRefusal, fieldsRefusal, refusal, shapeOf, readAs, caseOf}
-use Rattle.reading.specs.Admitted.{Admitted}
+use Rattle.reading.proofs.Admitted.{Admitted}
 use Rattle.reading.specs.declared.Check.{Check}
 use Rattle.reading.specs.declared.Check.the-variants.{Passed, Refused}
 use Rattle.reading.specs.declared.Shape.{Shape}

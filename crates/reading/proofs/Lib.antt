@@ -1,5 +1,6 @@
 -- What is shown of reading, below the proofs of the functions.
 pub mod Lowest
+pub mod Admitted
 pub mod Rows
 pub mod Fields
 pub mod Facts

@@ -2,6 +2,5 @@
 pub mod Lowest
 pub mod Parts
 pub mod Refusals
-pub mod Admitted
 pub mod Answers
 pub mod Night

@@ -12,7 +12,7 @@ use lib.ListN.{length, take, drop, replicate, length-replicate, getD-replicate, 
 use lib.Seq.{getD-take, drop-at, length-take-le}
 use borrow.Author.Tests.{lt-ltb, le-ltb}
 use Rattle.reading.specs.Parts.{Parts, tableOf, nodeOf, nodeCount, edgeCount, fromOf, temporals, eventualities, places}
-use Rattle.reading.specs.Admitted.{Admitted}
+use Rattle.reading.proofs.Admitted.{Admitted}
 use Rattle.reading.specs.Refusals.{partsOf, caseOf}
 use Rattle.reading.specs.declared.Case.{Case}
 use Rattle.reading.specs.declared.Shape.{Shape}

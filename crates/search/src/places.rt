@@ -93,7 +93,8 @@ pub fn is_initial(
     if sizes.guesses <= b {
         return false;
     }
-    if is_set(rows[last + s], b) {
+    let lane = rows[last + s];
+    if lane >> b & 1 == 1 {
         return false;
     }
     parts::initial(states, s)

@@ -9,7 +9,7 @@ use lib.Dec.{T}
 use lib.ListN.{length, getD}
 use Rattle.meaning.specs.Runs.{Violates, Holds}
 use Rattle.reading.specs.Parts.{Parts, tableOf, ruleOf, toOf, nodeCount, nodeOf, places}
-use Rattle.reading.specs.Admitted.{Admitted}
+use Rattle.reading.proofs.Admitted.{Admitted}
 use Rattle.graph.proofs.Graph.{_!_, Step, Lasso}
 use Rattle.graph.proofs.Machine.{Outer}
 use Rattle.graph.proofs.Conclusions.{nothing-endless}

@@ -12,7 +12,7 @@ use borrow.Author.Tests.{ltb-true, lt-ltb}
 use Rattle.meaning.proofs.Truths.{T-along}
 use Rattle.reading.specs.Lowest.{count}
 use Rattle.reading.specs.Parts.{Parts, tableOf, edgeCount, nodeCount, nodeOf, operatorFrom, operatorsFrom, temporals, eventualities, places}
-use Rattle.reading.specs.Admitted.{Admitted}
+use Rattle.reading.proofs.Admitted.{Admitted}
 use Rattle.reading.proofs.Lowest.{lowest-le}
 use Rattle.graph.proofs.Graph.{Graph}
 use Rattle.product.specs.Places.{Place}

@@ -11,7 +11,7 @@ use borrow.Author.Tests.{leb-true, leb-false, eq-eqb, le-leb, lt-leb}
 use Rattle.meaning.proofs.Truths.{T-along, T-and}
 use Rattle.reading.specs.Lowest.{lowest}
 use Rattle.reading.specs.Parts.{Parts, edgeCount, fromOf, toOf, hasEdge}
-use Rattle.reading.specs.Admitted.{Admitted}
+use Rattle.reading.proofs.Admitted.{Admitted}
 use Rattle.reading.proofs.Lowest.{lowest-is, lowest-passed, lowest-found, any-true, any-found}
 use Rattle.workspace.proofs.Setting.{startOf}
 use Rattle.workspace.proofs.Case.{T-is-true, start-within}

@@ -9,7 +9,7 @@ use lib.ListN.{length, getD}
 use borrow.Author.Tests.{lt-ltb, le-ltb}
 use Rattle.bits.specs.Bits.{bit}
 use Rattle.reading.specs.Parts.{Parts, tableOf, initialOf, nodeCount, nodeOf, temporals}
-use Rattle.reading.specs.Admitted.{Admitted}
+use Rattle.reading.proofs.Admitted.{Admitted}
 use Rattle.product.specs.Product.{initial}
 use Rattle.product.proofs.Lanes.{Rows}
 use Rattle.workspace.proofs.Setting.{productOf, codeOf, numberOf}

@@ -9,7 +9,7 @@ use lib.Dec.{leb, ltb}
 use lib.ListN.{length, getD, take, drop}
 use Rattle.reading.specs.Lowest.{lowest}
 use Rattle.reading.specs.Parts.{Parts, tableOf, edgeCount, fromOf, toOf, nodeCount, nodeOf, temporals, eventualities, places}
-use Rattle.reading.specs.Admitted.{Admitted}
+use Rattle.reading.proofs.Admitted.{Admitted}
 use Rattle.product.specs.Places.{Place}
 use Rattle.product.specs.Product.{Product, published, place, numbering, next, successor}
 use Rattle.product.proofs.Lanes.{Lanes, Starts}
