@@ -89,7 +89,12 @@ static void try_states(const uint8_t *bytes, size_t length, uint32_t *state)
 static void try_judge(const uint8_t *bytes, size_t length, const uint16_t *track, size_t entries, uint64_t k, uint64_t m, size_t room_for)
 {
     room scratch = make_room(room_for * sizeof(uint32_t), (uint32_t)(k + m));
+    uint16_t *lent = malloc(entries * sizeof(uint16_t) + 1);
+    need(lent != NULL, "no memory");
+    memcpy(lent, track, entries * sizeof(uint16_t));
     mullodai_answer a = mullodai_judge(bytes, length, track, entries, k, m, (uint32_t *)(void *)scratch.lent, room_for);
+    need(!memcmp(lent, track, entries * sizeof(uint16_t)), "judge: the track was written");
+    free(lent);
     need(a.stem == 0 && a.loop == 0, "judge: stem and loop");
     if (a.number <= 1) {
         need(a.place == 0 && k + m <= room_for, "judge: an answer without room");
@@ -99,6 +104,18 @@ static void try_judge(const uint8_t *bytes, size_t length, const uint16_t *track
         kept(&scratch, 0, "judge: written after a refusal");
     }
     drop_room(&scratch);
+}
+
+/* P of an admitted case: S * 2^T * (E+1), read off its bytes. */
+static size_t places(const uint8_t *bytes, size_t length)
+{
+    size_t states = bytes[3], edges = 8 + 3 * states, temporal = 0, promises = 0;
+    size_t nodes = edges + 3 + bytes[edges + 1] + 256u * bytes[edges + 2];
+    for (size_t node = nodes + 3; node < length; node += 3) {
+        temporal += bytes[node] >= 6;
+        promises += bytes[node] >= 7;
+    }
+    return (states << temporal) * (promises + 1);
 }
 
 static void try_search(const uint8_t *bytes, size_t length, uint32_t *state)
@@ -117,10 +134,10 @@ static void try_search(const uint8_t *bytes, size_t length, uint32_t *state)
         kept(&work, 0, "search: workspace written after a refusal");
         kept(&track, 0, "search: track written after a refusal");
     } else {
-        size_t used = 0;
-        while (used < space && ((uint16_t *)(void *)work.lent)[used] == 0)
-            used++;
-        kept(&work, used * 2, "search: later workspace was written");
+        size_t used = 6 * places(bytes, length) * 2;
+        need(used <= work.bytes, "search: a verdict without room");
+        zeros(&work, used, "search: workspace not 0");
+        kept(&work, used, "search: later workspace was written");
         kept(&track, a.number == 1 ? (a.stem + a.loop) * 2 : 0, "search: later track was written");
         if (a.number == 1) {
             uint32_t scratch[20480];
