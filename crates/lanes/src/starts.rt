@@ -15,7 +15,7 @@ fn skip(edges: &[u8], s: usize, e: usize) -> usize
     let count = edges.len() / 2;
     let mut at = e;
     while at < count {
-        if s <= parts::from(edges, at) {
+        if s <= parts::end(edges, at, parts::FROM) {
             return at;
         }
         at += 1;

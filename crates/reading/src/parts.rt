@@ -78,20 +78,17 @@ pub fn initial(states: &[u8], s: usize) -> bool
     flags(states, s) == 1
 }
 
-// The state that an edge leaves.
-pub fn from(edges: &[u8], e: usize) -> usize
-    requires { ⌜ 2 * e + 1 < length (now edges) ⌝ }
-    ensures { λ r. ⌜ r ≡ fromOf (now (edges .entry)) e ⌝ }
-{
-    byte(edges, 2 * e)
-}
+// Which end of an edge: the state that it leaves, or the state that it enters.
+pub const FROM: usize = 0;
 
-// The state that an edge enters.
-pub fn to(edges: &[u8], e: usize) -> usize
-    requires { ⌜ 2 * e + 1 < length (now edges) ⌝ }
-    ensures { λ r. ⌜ r ≡ toOf (now (edges .entry)) e ⌝ }
+pub const TO: usize = 1;
+
+// The state at an end of an edge.
+pub fn end(edges: &[u8], e: usize, which: usize) -> usize
+    requires { ⌜ (2 * e + 1 < length (now edges)) × (which ≤ 1) ⌝ }
+    ensures { λ r. ⌜ r ≡ cond (eqb which 0) (fromOf (now (edges .entry)) e) (toOf (now (edges .entry)) e) ⌝ }
 {
-    byte(edges, 2 * e + 1)
+    byte(edges, 2 * e + which)
 }
 
 // Whether the table has an edge from x to y.
@@ -114,7 +111,7 @@ fn goes(edges: &[u8], e: usize, x: usize, y: usize) -> bool
     requires { ⌜ 2 * e + 1 < length (now edges) ⌝ }
     ensures { λ r. ⌜ r ≡ eqb (fromOf (now (edges .entry)) e) x && eqb (toOf (now (edges .entry)) e) y ⌝ }
 {
-    from(edges, e) == x && to(edges, e) == y
+    end(edges, e, FROM) == x && end(edges, e, TO) == y
 }
 
 // A node's operator, 0 to 11 in an admitted case.

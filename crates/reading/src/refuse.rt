@@ -155,7 +155,7 @@ fn bad_end(list: &[u8], states: usize, e: usize) -> bool
     requires { ⌜ 2 * e + 1 < length (now list) ⌝ }
     ensures { λ r. ⌜ r ≡ badEnd states (now (list .entry)) e ⌝ }
 {
-    states <= parts::from(list, e) || states <= parts::to(list, e)
+    states <= parts::end(list, e, parts::FROM) || states <= parts::end(list, e, parts::TO)
 }
 
 // Whether edge e is above edge d, by from and then by to.
@@ -163,9 +163,10 @@ fn is_above(list: &[u8], e: usize, d: usize) -> bool
     requires { ⌜ (2 * e + 1 < length (now list)) × (2 * d + 1 < length (now list)) ⌝ }
     ensures { λ r. ⌜ r ≡ above (now (list .entry)) e d ⌝ }
 {
-    let lower = parts::from(list, d);
-    let upper = parts::from(list, e);
-    lower < upper || (lower == upper && parts::to(list, d) < parts::to(list, e))
+    let lower = parts::end(list, d, parts::FROM);
+    let upper = parts::end(list, e, parts::FROM);
+    lower < upper
+        || (lower == upper && parts::end(list, d, parts::TO) < parts::end(list, e, parts::TO))
 }
 
 // 22 of one edge.
@@ -227,7 +228,7 @@ fn lowest_dead_end(list: &[u8], states: usize) -> usize
         let s = states - left;
         let mut e = 0;
         while e < count {
-            if parts::from(list, e) == s {
+            if parts::end(list, e, parts::FROM) == s {
                 left -= 1;
                 continue 'states;
             }

@@ -1,5 +1,6 @@
 // Places as the stacks hold them: s * 128 + b * 8 + w, which comes apart by shifts. The colours are by the place's number.
 ghost use mathlib.Core.Path.{_≡_};
+ghost use lib.Dec.{leb};
 ghost use Prim.Native.Nat.{_+_, _-_, _*_, _/_, _%_, _^_, _≤_, _<_};
 ghost use Rattle.bits.specs.Bits.{bit};
 ghost use Rattle.workspace.proofs.Setting.{codeOf, numberIn};
@@ -60,6 +61,16 @@ pub fn waiting(code: usize) -> usize
     ensures { λ r. ⌜ r ≡ code % 8 ⌝ }
 {
     code % 8
+}
+
+// Whether a place of this waiting number is marked: with no promise every place is; else where none is waited for any more.
+pub fn is_marked(top: usize, w: usize) -> bool
+    ensures { λ r. ⌜ r ≡ leb top w ⌝ }
+{
+    if top == 0 {
+        return true;
+    }
+    top <= w
 }
 
 // The place's number: by state, then bits, then waiting number.

@@ -159,7 +159,7 @@ fn scan(
     let mut c = cursor;
     while c < end {
         let edge = c / 16;
-        let s = parts::to(edges, first + edge);
+        let s = parts::end(edges, first + edge, parts::TO);
         let fit = fitting(lanes, sizes.ones, row.state, row.bits, s);
         let b = scan_bits(sizes, workspace, fit, s, c % 16, row.next, limit);
         if b < 16 {

@@ -165,7 +165,7 @@ fn leave(
         (sizes .top) (sizes .places)) (r d : ℕ) → Leaving c r (now (workspace .entry)) d code → (inner at : ℕ) → t ≡ Turn.Met inner at
         → MetIn c (now (workspace .exit)) (suc d) inner at) ⌝ }
 {
-    if places::waiting(code) < sizes.top {
+    if !places::is_marked(sizes.top, places::waiting(code)) {
         paint(sizes, workspace, code, BLUE);
         return Turn::Back;
     }

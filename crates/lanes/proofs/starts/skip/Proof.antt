@@ -16,8 +16,8 @@ abbrev μ-loop : tie.MeasureT-loop
 loop-holds : tie.Need-loop-holds Inv-loop μ-loop
 loop-holds c = (omega arith, omega arith, λ i a b. absurd (omega arith))
 
-from-requires : tie.Need-from-requires Inv-loop μ-loop
-from-requires c κs = omega arith
+end-requires : tie.Need-end-requires Inv-loop μ-loop
+end-requires c κs = omega arith
 
 returns : tie.Need-returns Inv-loop μ-loop
 returns c =
@@ -26,7 +26,7 @@ returns c =
       from-there = at .inv .0;
       within = at .inv .1;
       passed = at .inv .2;
-      reached = λ h. omega (arith, c .before .from .ensures, c .if1 .taken);
+      reached = λ h. omega (arith, c .before .end .ensures, c .if1 .taken);
     }
 
 add-at : tie.Need-add-at Inv-loop μ-loop
@@ -46,7 +46,7 @@ loop-again c =
       omega arith,
       λ i a b.
           below-more (λ k. e ≤ k → fromOf edges k < s) (at .at) (λ k l m. at .inv .2 k m l)
-          (λ m. omega (arith, c .before .from .ensures, c .if1 .left)) i b a,
+          (λ m. omega (arith, c .before .end .ensures, c .if1 .left)) i b a,
     )
 
 returns-2 : tie.Need-returns-2 Inv-loop μ-loop
@@ -61,7 +61,7 @@ skip-spec =
     Inv-loop
     μ-loop
     loop-holds
-    from-requires
+    end-requires
     returns
     add-at
     loop-less

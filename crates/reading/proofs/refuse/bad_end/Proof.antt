@@ -5,19 +5,19 @@ use Rattle.reading.specs.Refusals.{badEnd}
 use Rattle.reading.proofs.refuse.bad_end.Statement.{statement}
 use Rattle.reading.proofs.refuse.bad_end.Tie as tie
 
-from-requires : tie.Need-from-requires
-from-requires c κs = search needs
+end-requires : tie.Need-end-requires
+end-requires c κs = search needs
 
-to-requires : tie.Need-to-requires
-to-requires c κs = search needs
+end-requires-2 : tie.Need-end-requires-2
+end-requires-2 c κs = search needs
 
 returns : tie.Need-returns
 unfolding badEnd
-returns c = simp (← c .before .from .ensures, le-leb _ _ (c .if1 .taken))
+returns c = simp (← c .before .end .ensures, le-leb _ _ (c .if1 .taken))
 
 returns-2 : tie.Need-returns-2
 unfolding badEnd
-returns-2 c = simp (← c .before .before .from .ensures, ← c .to .ensures, lt-leb _ _ (c .before .if1 .left))
+returns-2 c = simp (← c .before .before .end .ensures, ← c .end2 .ensures, lt-leb _ _ (c .before .if1 .left))
 
 pub bad-end-spec : {M : Type 1} → statement M
-bad-end-spec = tie.close (tie.spec from-requires to-requires returns returns-2)
+bad-end-spec = tie.close (tie.spec end-requires end-requires-2 returns returns-2)

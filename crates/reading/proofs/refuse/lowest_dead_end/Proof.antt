@@ -36,8 +36,8 @@ sub-s c = omega arith
 loop-holds : tie.Need-loop-holds Inv-loop μ-loop Inv-states μ-states
 loop-holds c = (refl, omega arith, λ j h. absurd (omega arith))
 
-from-requires : tie.Need-from-requires Inv-loop μ-loop Inv-states μ-states
-from-requires c κs = omega arith
+end-requires : tie.Need-end-requires Inv-loop μ-loop Inv-states μ-states
+end-requires c κs = omega arith
 
 sub-left : tie.Need-sub-left Inv-loop μ-loop Inv-states μ-states
 sub-left c = omega arith
@@ -53,7 +53,7 @@ states-again c = (
       below-more _
       (c .before .before .before .before .before .before .before .args .states - c .before .before .before .before .before .states .left)
       (c .before .before .before .before .before .states .inv .2)
-      (starts-one _ _ _ (c .before .before .loop-test .taken) (sym (c .before .from .ensures) ∙ c .if1 .taken))
+      (starts-one _ _ _ (c .before .before .loop-test .taken) (sym (c .before .end .ensures) ∙ c .if1 .taken))
       j
       (omega arith),
 )
@@ -70,7 +70,7 @@ loop-again c = (
   omega arith,
   below-more _ _
       (c .before .before .before .loop .inv .2)
-      (ne-eqb _ _ (λ p. c .if1 .left (c .before .from .ensures ∙ p))),
+      (ne-eqb _ _ (λ p. c .if1 .left (c .before .end .ensures ∙ p))),
 )
 
 returns : tie.Need-returns Inv-loop μ-loop Inv-states μ-states
@@ -96,7 +96,7 @@ lowest-dead-end-spec =
     states-holds
     sub-s
     loop-holds
-    from-requires
+    end-requires
     sub-left
     states-less
     states-again

@@ -23,10 +23,10 @@ abbrev start : tie.In-loop Inv-loop μ-loop → tie.Start Inv-loop μ-loop
 start c = c .before .before .before .before
 
 -- the state that the edge at hand enters
-to-below : (c : tie.After-to Inv-loop μ-loop) → c .to .result < 64
+to-below : (c : tie.After-end Inv-loop μ-loop) → c .end .result < 64
 to-below c =
     let turn = c .before in
-    subst (λ (s : ℕ). s < 64) (sym (c .to .ensures)) (start turn .pre .to-below (turn .before .loop .c) (turn .loop-test .taken))
+    subst (λ (s : ℕ). s < 64) (sym (c .end .ensures)) (start turn .pre .to-below (turn .before .loop .c) (turn .loop-test .taken))
 
 -- the cursor at hand is small
 low : (c : tie.In-loop Inv-loop μ-loop) → (c .before .loop .c < start c .args .row .end) × (c .before .loop .c < 8192)
@@ -35,11 +35,11 @@ low c = (c .loop-test .taken, omega (arith, start c .pre .end-below, c .loop-tes
 loop-holds : tie.Need-loop-holds Inv-loop μ-loop
 loop-holds c = (omega arith, passed-none _ _ _ _ _ (c .before .before .pre))
 
-add-to : tie.Need-add-to Inv-loop μ-loop
-add-to c = omega (arith, start c .pre .edges-lie (c .before .loop .c) (c .loop-test .taken))
+add-end : tie.Need-add-end Inv-loop μ-loop
+add-end c = omega (arith, start c .pre .edges-lie (c .before .loop .c) (c .loop-test .taken))
 
-to-requires : tie.Need-to-requires Inv-loop μ-loop
-to-requires c κs = start c .pre .edges-lie (c .before .loop .c) (c .loop-test .taken)
+end-requires : tie.Need-end-requires Inv-loop μ-loop
+end-requires c κs = (start c .pre .edges-lie (c .before .loop .c) (c .loop-test .taken), omega arith)
 
 fitting-requires : tie.Need-fitting-requires Inv-loop μ-loop
 fitting-requires c κs = omega (arith, to-below c, start (c .before) .pre)
@@ -53,7 +53,7 @@ scan-bits-requires c κs =
       to-below (c .before),
       omega arith,
       pre .next-below,
-      turn-inside _ _ (start turn .args .limit) _ (start turn .args .cursor) pre _ _ _ (turn .loop-test .taken) (c .before .to .ensures)
+      turn-inside _ _ (start turn .args .limit) _ (start turn .args .cursor) pre _ _ _ (turn .loop-test .taken) (c .before .end .ensures)
           (c .fitting .ensures),
     )
 
@@ -75,7 +75,7 @@ returns c =
           let at : turn .before .loop .c / 16 * 16 + bits .scan-bits .result ≡ found = cc in
           let is : c .code .result ≡ code = cc in
           stops-same _
-          (turn-stops _ _ _ _ _ (start turn .pre) _ _ _ (turn .loop-test .taken) (fit .before .to .ensures) (fit .fitting .ensures)
+          (turn-stops _ _ _ _ _ (start turn .pre) _ _ _ (turn .loop-test .taken) (fit .before .end .ensures) (fit .fitting .ensures)
           (turn .before .loop .inv .1) _ (bits .scan-bits .ensures) (c .before .if1 .taken) (turn .before .loop .inv .0))
           at (sym (c .code .ensures) ∙ is),
       λ e. absurd (let z : _≡_ {A = ℕ} 0 1 = cc in omega arith),
@@ -96,7 +96,7 @@ loop-again c =
     let fit = bits .before in
     let turn = fit .before .before in (
       omega (arith, turn .before .loop .inv .0),
-      turn-passed _ _ _ _ _ (start turn .pre) _ _ _ (turn .loop-test .taken) (fit .before .to .ensures) (fit .fitting .ensures)
+      turn-passed _ _ _ _ _ (start turn .pre) _ _ _ (turn .loop-test .taken) (fit .before .end .ensures) (fit .fitting .ensures)
           (turn .before .loop .inv .1) _ (bits .scan-bits .ensures) (turn .before .loop .c / 16 * 16 + 16) (omega (arith, c .if1 .left))
           (omega arith),
     )
@@ -114,8 +114,8 @@ scan-spec =
     Inv-loop
     μ-loop
     loop-holds
-    add-to
-    to-requires
+    add-end
+    end-requires
     fitting-requires
     scan-bits-requires
     mul-t17

@@ -1,6 +1,5 @@
 -- `search::turns::leave` meets its contract: blue where the place is not marked; red after an inner search that met nothing. Assumes nothing.
-use Prim.Native.Nat.{ℕ, suc}
-use native.Mathlib.Omega.{arith}
+use Prim.Native.Nat.{ℕ, suc, _%_, _≤_, _<_}
 use mathlib.Core.Path.{sym, _∙_, subst}
 use mathlib.Core.List.{List}
 use Rattle.workspace.proofs.Views.{Kept}
@@ -8,11 +7,32 @@ use Rattle.workspace.proofs.ViewsIn.{OuterOn}
 use Rattle.workspace.proofs.InnerTurnsIn.{top-paints, paint-kept, left-blue, red-paints, red-kept, left-red}
 use Rattle.search.proofs.Cases.{back-deeper, back-met, met-deeper, met-back}
 use borrow.Author.Needs.{needs}
+use borrow.Author.Tests.{leb-true, leb-false, not-true, not-false}
 use Rattle.search.proofs.turns.leave.Statement.{statement}
 use Rattle.search.proofs.turns.leave.Tie as tie
 
 waiting-requires : tie.Need-waiting-requires
 waiting-requires c κs = search needs
+
+-- the place at hand waits for a promise where it is not marked, and for none any more where it is
+abbrev code : tie.After-is-marked → ℕ
+code c = c .before .before .before .before .args .code
+
+abbrev top : tie.After-is-marked → ℕ
+top c = c .before .before .before .before .args .sizes .top
+
+waits : (c : tie.Then1) → code (c .before) % 8 < top (c .before)
+waits c =
+    subst (λ (w : ℕ). w < top (c .before)) (c .before .before .waiting .ensures)
+    (leb-false _ _ (sym (c .before .is-marked .ensures) ∙ not-true _ (c .if1 .taken)))
+
+waits-no-more : (c : tie.Else1) → top (c .before) ≤ code (c .before) % 8
+waits-no-more c =
+    subst (λ (w : ℕ). top (c .before) ≤ w) (c .before .before .waiting .ensures)
+    (leb-true _ _ (sym (c .before .is-marked .ensures) ∙ not-false _ (c .if1 .left)))
+
+is-marked-requires : tie.Need-is-marked-requires
+is-marked-requires c κs = search needs
 
 paint-requires : tie.Need-paint-requires
 paint-requires c κs = top-paints (c .before .before .before .before .before .before .pre .0) (c .before .before .before .before .before .before .pre .3)
@@ -30,14 +50,14 @@ returns c =
         λ e. back-deeper e,
         (
           λ x r d l e.
-              subst (λ (k : List ℕ). OuterOn x r ws (suc d) k d) (sym on) (left-blue x l (omega (arith, c .before .before .before .before .if1 .taken, c .before .before .before .before .before .before .waiting .ensures))),
+              subst (λ (k : List ℕ). OuterOn x r ws (suc d) k d) (sym on) (left-blue x l (waits (c .before .before .before .before))),
           λ x r d l i a e. back-met i a e,
         ),
       ),
     )
 
 inner-search-requires : tie.Need-inner-search-requires
-inner-search-requires c κs = (c .before .before .before .before .before .before .pre, omega (arith, c .before .if1 .left, c .before .before .before .waiting .ensures))
+inner-search-requires c κs = (c .before .before .before .before .before .before .pre, waits-no-more (c .before))
 
 enum-known-inner : tie.Need-enum-known-inner
 enum-known-inner c = search needs
@@ -93,6 +113,7 @@ leave-spec =
     tie.close
     (tie.spec
     waiting-requires
+    is-marked-requires
     paint-requires
     same-length
     returns
