@@ -15,9 +15,9 @@ use reading::Case;
 use reading::CaseRefusal;
 use reading::Shape;
 use reading::parts;
+use scans::places;
+use scans::places::Sizes;
 
-pub mod places;
-pub mod scans;
 pub mod tracks;
 pub mod turns;
 
@@ -30,7 +30,6 @@ pub enum SearchAnswer {
     Violated { stem: usize, repeat: usize },
 }
 
-use places::Sizes;
 use turns::Hit;
 
 // Looks for a run that breaks the rule of a case.

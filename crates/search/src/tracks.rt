@@ -4,7 +4,7 @@ ghost use mathlib.Core.List.{List, _++_};
 ghost use Prim.Native.Nat.{ℕ, _+_, _-_, _*_, _≤_, _<_};
 ghost use lib.ListN.{length, drop, replicate};
 ghost use Rattle.workspace.proofs.Tracks.{Stands, Lowest, Wrote};
-use crate::places;
+use scans::places;
 
 // Makes the first n entries 0.
 pub fn clear(workspace: &mut [u16], n: usize)

@@ -11,10 +11,9 @@ ghost use Rattle.workspace.proofs.TurnsIn.{Paints, Pushes, Advances, pushed, ad
 ghost use Rattle.workspace.proofs.InnerTurnsIn.{Leaving};
 ghost use Rattle.workspace.proofs.Roots.{Rooting, rootAt};
 ghost use Rattle.workspace.proofs.RootTurnsIn.{rootNumber, Root};
-use crate::places;
-use crate::places::Sizes;
-use crate::scans;
-use crate::scans::Found;
+use scans::Found;
+use scans::places;
+use scans::places::Sizes;
 
 pub const WHITE: u16 = 0;
 
