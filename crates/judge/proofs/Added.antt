@@ -10,7 +10,7 @@ use Rattle.meaning.specs.Table.{Node}
 use Rattle.meaning.specs.Laws.{plain, now, stay, greatest}
 use Rattle.meaning.specs.Runs.{position}
 use Rattle.rule.specs.Value.{truth}
-use Rattle.rule.proofs.Positions.{position-below}
+use Rattle.meaning.proofs.Positions.{position-below}
 use Rattle.rule.proofs.Passes.{pass, pass-same, seed, lasting}
 use Rattle.rule.proofs.Entries.{nowAt, stayAt, ahead, entries}
 use Rattle.judge.specs.Inner.{added}

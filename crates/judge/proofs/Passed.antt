@@ -14,7 +14,7 @@ use Rattle.meaning.specs.Laws.{operands}
 use Rattle.meaning.specs.Runs.{position, Run}
 use Rattle.meaning.proofs.Truths.{T-along}
 use Rattle.meaning.proofs.Loops.{position-in}
-use Rattle.rule.proofs.Positions.{position-closes}
+use Rattle.meaning.proofs.Positions.{position-closes}
 use Rattle.reading.specs.Parts.{nodeOf, nodeCount}
 use Rattle.reading.specs.Refusals.{nodesRefusal, unknown, wrongByte, firstLimit, secondLimit}
 use Rattle.reading.specs.declared.Check as CaseCheck

@@ -3,7 +3,9 @@ pub mod Valuation
 pub mod Truths
 pub mod Poles
 pub mod Loops
+pub mod Positions
 pub mod Ahead
+pub mod Folds
 pub mod Operators
 pub mod Hinge
 pub mod Decided

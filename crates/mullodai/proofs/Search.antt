@@ -13,7 +13,7 @@ use borrow.Author.Tests.{lt-ltb, le-ltb, lt-leb, ne-eqb}
 use Rattle.meaning.specs.Runs.{Run, Violates, Holds, position}
 use Rattle.meaning.specs.Table.{Table}
 use Rattle.meaning.proofs.Loops.{position-in}
-use Rattle.rule.proofs.Positions.{position-closes}
+use Rattle.meaning.proofs.Positions.{position-closes}
 use Rattle.reading.specs.Lowest.{any}
 use Rattle.reading.specs.Parts.{tableOf, ruleOf, places}
 use Rattle.reading.specs.Refusals.{partsOf, refusal}

@@ -23,7 +23,7 @@ use Rattle.meaning.proofs.Operators.{laws-operands}
 use Rattle.product.specs.Places.{Place}
 use Rattle.product.specs.Product.{Product, temporal, truth, meets, width, top, size, place, numbering, met, next, marked, initial}
 use Rattle.product.proofs.Waiting.{From, Recurs, Move, below-top, met-recurs→top-recurs}
-use Rattle.product.proofs.Positions.{Onward, on, back, position-onward, position-below}
+use Rattle.meaning.proofs.Positions.{Onward, on, back, position-onward, position-below}
 use Rattle.product.proofs.Numbers.{numbering-below, place-numbering}
 use Rattle.product.proofs.Nodes.{numbered}
 use Rattle.product.proofs.Operators.{plain-operands, kept-operands}
@@ -135,7 +135,7 @@ module _ (g : Product) (ordered : Ordered (g .node) (g .count)) (track : List �
 
   module _ (run : Run (g .table) track k m) where
     edges : (i : ℕ) → T (g .table .edge (state i) (state (suc i)))
-    edges i = go (position-onward m (run .loops) k i)
+    edges i = go (position-onward k m (run .loops) i)
       where
         go : {e f : ℕ} → Onward k m e f → T (g .table .edge (getD track e 0) (getD track f 0))
         go {e} (on l p) = subst (λ (f : ℕ). T (g .table .edge (getD track e 0) (getD track f 0))) (sym p) (run .steps e l)
@@ -185,7 +185,7 @@ module _ (g : Product) (ordered : Ordered (g .node) (g .count)) (track : List �
       along-number : (i : ℕ) → numbering g (along i) < size g
       unfolding along
       along-number i =
-          numbering-below g (along i) (run .states (position k m i) (position-below m (run .loops) k i)) (bitsAt-below g u i) (bounded i)
+          numbering-below g (along i) (run .states (position k m i) (position-below k m (run .loops) i)) (bitsAt-below g u i) (bounded i)
 
       place-along : (i : ℕ) → along i ≡ place g (numbering g (along i))
       unfolding along

@@ -1,17 +1,17 @@
 -- Endless paths of the product on which marks recur, and lassos of it with a mark in the loop, which unroll to such paths. On them
 -- every listed promise is met again and again, whatever the list. Assumes nothing.
-use Prim.Native.Nat.{ℕ, suc, _+_, _-_, _≤_, _<_}
+use Prim.Native.Nat.{ℕ, zero, suc, _+_, _-_, _≤_, _<_}
 use native.Mathlib.Omega.{arith}
-use mathlib.Core.Path.{_≡_, sym, subst, subst₂}
+use mathlib.Core.Path.{_≡_, sym, _∙_, subst, subst₂}
 use mathlib.Core.List.{List}
 use lib.Dec.{T, eqb→eq}
 use lib.ListN.{length, getD}
 use Rattle.meaning.specs.Runs.{position}
-use Rattle.meaning.proofs.Loops.{position-in, position-loop}
+use Rattle.meaning.proofs.Loops.{position-in, position-loop, position-repeats}
+use Rattle.meaning.proofs.Positions.{Onward, on, back, position-onward, position-below}
 use Rattle.product.specs.Places.{Place}
 use Rattle.product.specs.Product.{Product, top, size, place, initial, met, marked, successor}
 use Rattle.product.proofs.Waiting.{From, Recurs, top-recurs→met-recurs}
-use Rattle.product.proofs.Positions.{Onward, on, back, position-onward, position-below, position-recurs}
 use Rattle.product.proofs.Steps.{successor→stepped, stepped-moves}
 
 -- an endless path from an initial place on which marks recur
@@ -30,6 +30,14 @@ pub record Lasso (g : Product) (entries : List ℕ) (k m : ℕ) : Type 0 where
   pub closes : T (successor g (place g (getD entries (k + m - 1) 0)) (place g (getD entries k 0)))
   pub marks : (i : ℕ) × (k ≤ i) × (i < k + m) × T (marked g (place g (getD entries i 0)))
 
+-- every entry of a loop comes again and again
+position-recurs : (k m e : ℕ) → k ≤ e → e < k + m → Recurs (λ j. (k ≤ j) × (position k m j ≡ e))
+position-recurs k m e h l zero = (e, omega arith, (h, position-in k m e l))
+position-recurs k m e h l (suc i) = go (position-recurs k m e h l i)
+  where
+    go : From (λ j. (k ≤ j) × (position k m j ≡ e)) i → From (λ j. (k ≤ j) × (position k m j ≡ e)) (suc i)
+    go (j, a, (b, p)) = (j + m, omega arith, (omega arith, position-repeats k m j b ∙ p))
+
 -- the endless path of the places of stem k and loop m
 abbrev pub unrolled : Product → List ℕ → ℕ → ℕ → ℕ → Place
 unrolled g entries k m i = place g (getD entries (position k m i) 0)
@@ -43,7 +51,7 @@ module _ (g : Product) (entries : List ℕ) (k m : ℕ) (lasso : Lasso g entries
   lasso-path =
       record {
         begins = subst (λ (e : ℕ). T (initial g (at e))) (sym (position-in k m 0 (omega (arith, lasso .loops)))) (lasso .begins);
-        goes-on = λ i. go (position-onward m (lasso .loops) k i);
+        goes-on = λ i. go (position-onward k m (lasso .loops) i);
         marks = λ i. recurs (lasso .marks) i;
       }
     where
@@ -52,7 +60,7 @@ module _ (g : Product) (entries : List ℕ) (k m : ℕ) (lasso : Lasso g entries
       go (back p q) = subst₂ (λ (e f : ℕ). T (successor g (at e) (at f))) (sym p) (sym q) (lasso .closes)
 
       recurs : (e : ℕ) × (k ≤ e) × (e < k + m) × T (marked g (at e)) → Recurs (λ i. T (marked g (unrolled g entries k m i)))
-      recurs (e, a, b, t) i = here (position-recurs m (lasso .loops) k e a b i)
+      recurs (e, a, b, t) i = here (position-recurs k m e a b i)
         where
           here : From (λ j. (k ≤ j) × (position k m j ≡ e)) i → From (λ j. T (marked g (unrolled g entries k m j))) i
           here (j, h, (l, p)) = (j, h, subst (λ (x : ℕ). T (marked g (at x))) (sym p) t)
@@ -83,4 +91,4 @@ lasso-meets g entries k m lasso e h = go (path-meets g _ (lasso-path g entries k
     go : From (λ j. T (met g e (unrolled g entries k m j .state) (unrolled g entries k m j .bits))) k
         → (i : ℕ) × (k ≤ i) × (i < k + m) × T (met g e (place g (getD entries i 0) .state) (place g (getD entries i 0) .bits))
     go (j, l, t) =
-        (position k m j, omega (arith, position-loop k m j l), position-below m (lasso .loops) k j, t)
+        (position k m j, omega (arith, position-loop k m j l), position-below k m (lasso .loops) j, t)

@@ -5,7 +5,6 @@ pub mod Nodes
 pub mod Operators
 pub mod Truth
 pub mod Steps
-pub mod Positions
 pub mod Lassos
 pub mod Promises
 pub mod Sound

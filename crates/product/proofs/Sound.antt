@@ -18,7 +18,7 @@ use Rattle.meaning.proofs.Hinge.{valuation-is-truth}
 use Rattle.product.specs.Places.{Place}
 use Rattle.product.specs.Product.{Product, truth, meets, place, met}
 use Rattle.product.proofs.Waiting.{From}
-use Rattle.product.proofs.Positions.{position-below}
+use Rattle.meaning.proofs.Positions.{position-below}
 use Rattle.product.proofs.Truth.{truth-plain}
 use Rattle.product.proofs.Steps.{Stepped, successor→stepped, initial→, law-next, carried-own}
 use Rattle.product.proofs.Numbers.{place-state}
@@ -67,7 +67,7 @@ module _ (g : Product) (ordered : Ordered (g .node) (g .count)) (listed : Listed
         first = omega (arith, lasso .loops)
 
     path-is : (i : ℕ) → g .table .label (unrolled g entries k m i .state) ≡ pathOf (g .table) track k m i
-    path-is i = ap (g .table .label) (sym (tracked (position k m i) (position-below m (lasso .loops) k i)))
+    path-is i = ap (g .table .label) (sym (tracked (position k m i) (position-below k m (lasso .loops) i)))
 
     false-at-first : 1 ≤ g .count → At (λ i. g .table .label (unrolled g entries k m i .state)) (rule (g .node) (g .count)) 0 → ⊥
     unfolding rule

@@ -18,7 +18,7 @@ use Rattle.meaning.proofs.Valuation.{Valuation}
 use Rattle.rule.specs.Value.{truth, value}
 use Rattle.rule.proofs.Operands.{now-operands, stay-operands}
 use Rattle.rule.proofs.Values.{value-below, value-lower, value-guessed, value-computes}
-use Rattle.rule.proofs.Positions.{position-turns, position-below, position-next}
+use Rattle.meaning.proofs.Positions.{position-turns, position-below, position-next}
 use Rattle.rule.proofs.Passes.{lasting, lasting-unrolls, lasting-kept}
 
 -- `now` and `stay` of a node at entry i, where the entries have these values

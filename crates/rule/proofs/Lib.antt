@@ -2,6 +2,5 @@
 pub mod Words
 pub mod Operands
 pub mod Values
-pub mod Positions
 pub mod Passes
 pub mod Entries

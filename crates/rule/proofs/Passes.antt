@@ -12,7 +12,7 @@ use lib.Dec.{T}
 use Rattle.meaning.specs.Runs.{position}
 use Rattle.meaning.proofs.Truths.{T-along, T-or-r}
 use Rattle.meaning.proofs.Loops.{position-in}
-use Rattle.rule.proofs.Positions.{position-closes}
+use Rattle.meaning.proofs.Positions.{position-closes}
 
 -- the truth at entry i, carried back over d entries from the seed
 unfoldable pub pass : (now stay : ℕ → Bool) → Bool → ℕ → ℕ → Bool

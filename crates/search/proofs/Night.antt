@@ -16,7 +16,7 @@ use Rattle.reading.specs.Refusals.{lengthAt, at04, partsOf, inSteps, fieldRefus
 use Rattle.reading.specs.Night.{night}
 use Rattle.reading.specs.declared.Check.{Check}
 use Rattle.reading.proofs.Examples.{night-passes, night-places}
-use Rattle.product.proofs.Positions.{position-below}
+use Rattle.meaning.proofs.Positions.{position-below}
 use Rattle.graph.proofs.Lists.{blank}
 use Rattle.search.specs.Answers.{number, place, stem, loop}
 use Rattle.search.specs.Outcome.{workspaceNeeds, trackNeeds, Refuses, Decides, Searches, Reads, Searched}
@@ -155,7 +155,7 @@ low-right s (inr e) = subst (λ (s : ℕ). (T (bit (tableOf (partsOf nightWithou
 pub without-holds : Holds (tableOf (partsOf nightWithout)) (ruleOf (partsOf nightWithout))
 unfolding nodeOf lengthAt at04 partsOf nightWithout formulaOf formulas formula rule
 without-holds track k m v =
-    v .breaks (λ j h. low-right (getD track (position k m j) 0) (entry-low track k m (v .run) (position k m j) (position-below m (v .run .loops) k j)))
+    v .breaks (λ j h. low-right (getD track (position k m j) 0) (entry-low track k m (v .run) (position k m j) (position-below k m (v .run .loops) j)))
 
 -- every allowed outcome is holds
 pub without-held : (ws track : List ℕ) (answer : SearchAnswer) (ws′ track′ : List ℕ) → length ws ≡ 72 → length track ≡ 24

@@ -26,7 +26,8 @@ use Rattle.workspace.proofs.Roots.{Rooting}
 use Rattle.workspace.proofs.Views.{Kept}
 use Rattle.workspace.proofs.ViewsIn.{OuterIn, MetIn}
 use Rattle.workspace.proofs.RootTurns.{start-at}
-use Rattle.workspace.proofs.Tracks.{Lowest, Wrote, holds-in, met-violates, met-rest, met-long}
+use Rattle.meaning.proofs.Folds.{Folds}
+use Rattle.workspace.proofs.Tracks.{holds-in, Lowest, runIn, Wrote, met-violates}
 use Rattle.search.specs.Outcome.{workspaceNeeds, trackNeeds, cleared, Decides, Searches}
 use Rattle.search.specs.declared.SearchAnswer.{SearchAnswer}
 
@@ -116,17 +117,18 @@ module _ {edges lanes starts : List ℕ} {guesses ones top size : ℕ} (x : Sett
       → Decides (x .parts) lent track SearchAnswer.Holds (cleared (x .parts) lent) track
   decides-holds o lent track = record { holds = holds-in x o; workspace-cleared = refl; track-untouched = refl }
 
-  pub decides-violated : {ws : List ℕ} {outer inner at k : ℕ} → MetIn x ws outer inner at → Lowest ws size at k
-      → {track middle track′ : List ℕ} → Wrote ws size outer track 0 middle → Wrote ws (3 * size + 1) (inner - 1) middle outer track′
-      → 2 * size ≤ length track → (answer : SearchAnswer) → answer ≡ SearchAnswer.Violated k (outer + inner - 1 - k) → (lent : List ℕ)
+  pub decides-violated : {ws : List ℕ} {outer inner at k stem repeat : ℕ} → MetIn x ws outer inner at → Lowest ws size at k
+      → Folds (runIn ws size outer) k (outer + inner - 1 - k) stem repeat
+      → {track track′ : List ℕ} → Wrote ws size outer (stem + repeat) track track′
+      → 2 * size ≤ length track → (answer : SearchAnswer) → answer ≡ SearchAnswer.Violated stem repeat → (lent : List ℕ)
       → Decides (x .parts) lent track answer (cleared (x .parts) lent) track′
-  decides-violated m low {track} {middle} {track′} stem rest room answer e lent =
+  decides-violated m low folded {track} {track′} wrote room answer e lent =
       subst (λ (r : SearchAnswer). Decides (x .parts) lent track r (cleared (x .parts) lent) track′) (sym e)
       (record {
-        violates = met-violates x m low stem rest room;
+        violates = met-violates x m low folded wrote room;
         workspace-cleared = refl;
-        rest-untouched = met-rest x m low stem rest room;
-        track-length = met-long x m low stem rest room;
+        rest-untouched = wrote .behind;
+        track-length = wrote .long;
       })
 
 -- ---- clearing

@@ -9,7 +9,8 @@ ghost use Rattle.reading.specs.Parts.{places as placesOf};
 ghost use Rattle.reading.specs.Refusals.{partsOf, caseOf};
 ghost use Rattle.reading.specs.declared.Case.{Case};
 ghost use Rattle.workspace.proofs.Views.{Kept};
-ghost use Rattle.workspace.proofs.Tracks.{Stands, Lowest, Wrote};
+ghost use Rattle.meaning.proofs.Folds.{Folds};
+ghost use Rattle.workspace.proofs.Tracks.{Stands, Lowest, runIn, Lies, Wrote};
 ghost use Rattle.search.specs.Outcome.{Searched, Searches, Decides, workspaceNeeds, trackNeeds, cleared};
 use reading::Case;
 use reading::CaseRefusal;
@@ -18,6 +19,7 @@ use reading::parts;
 use scans::places;
 use scans::places::Sizes;
 
+pub mod folds;
 pub mod tracks;
 pub mod turns;
 
@@ -130,8 +132,8 @@ fn verdict(
     }
 }
 
-// Writes the run that was found: the outer stack, `outer` places deep, and the inner stack above its first place; the loop starts
-// where the place met again stands.
+// Writes the run that was found, folded: the outer stack, `outer` places deep, and the inner stack above its first place; the loop
+// starts where the place met again stands.
 fn show(
     workspace: &[u16],
     places: usize,
@@ -141,14 +143,17 @@ fn show(
     track: &mut [u16],
 ) -> SearchAnswer
     requires { ⌜ ((s : Stands (now workspace) places at) × (s .index < outer)) ⌝ }
-    requires { ⌜ (1 ≤ inner) × (places + outer ≤ length (now workspace)) × (3 * places + inner ≤ length (now workspace))
-        × (outer + inner ≤ length (now track) + 1) ⌝ }
-    ensures { λ r. ⌜ ((k : ℕ) × (middle : List ℕ) × (r ≡ SearchAnswer.Violated k (outer + inner - 1 - k))
-        × Lowest (now (workspace .entry)) places at k × Wrote (now (workspace .entry)) places outer (now (track .entry)) 0 middle
-        × Wrote (now (workspace .entry)) (3 * places + 1) (inner - 1) middle outer (now (track .exit))) ⌝ }
+    requires { ⌜ (1 ≤ inner) × Lies (now workspace) places outer (outer + inner - 1) × (outer + inner ≤ length (now track) + 1)
+        × (outer + inner < 65536) ⌝ }
+    ensures { λ r. ⌜ ((k : ℕ) × (stem : ℕ) × (repeat : ℕ) × (r ≡ SearchAnswer.Violated stem repeat)
+        × Lowest (now (workspace .entry)) places at k
+        × Folds (runIn (now (workspace .entry)) places outer) k (outer + inner - 1 - k) stem repeat
+        × Wrote (now (workspace .entry)) places outer (stem + repeat) (now (track .entry)) (now (track .exit))) ⌝ }
 {
-    let stem = tracks::find(workspace, places, at);
-    tracks::write(workspace, places, outer, inner, track);
-    let repeat = outer + inner - 1 - stem;
+    let k = tracks::find(workspace, places, at);
+    let m = outer + inner - 1 - k;
+    let repeat = folds::fold_loop(workspace, places, outer, k, m);
+    let stem = folds::fold_stem(workspace, places, outer, k, repeat);
+    tracks::write(workspace, places, outer, stem + repeat, track);
     SearchAnswer::Violated { stem, repeat }
 }

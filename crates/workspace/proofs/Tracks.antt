@@ -1,14 +1,18 @@
 -- The run that is written out: where a met place stands on the outer stack, what the track holds then, and that it violates the rule; and that
 -- a search through all roots shows that the rule holds. Assumes nothing.
-use Prim.Native.Nat.{ℕ, suc, _+_, _-_, _*_, _/_, _≤_, _<_}
+use Prim.Native.Nat.{ℕ, zero, suc, _+_, _-_, _*_, _/_, _≤_, _<_}
 use native.Mathlib.Nat.{not-suc-le-zero}
 use native.Mathlib.Omega.{arith}
 use native.Mathlib.Decide.{decLt, ℕ-discrete}
 use mathlib.Core.Path.{_≡_, refl, sym, ap, _∙_, subst}
-use mathlib.Core.List.{List, [], _++_}
-use lib.ListN.{length, set, take, drop, length-set, List·getD-append}
-use lib.Seq.{getD-set-same, getD-set-other, drop-set-lt, drop-drop, getD-append-add, getD-drop}
+use mathlib.Core.List.{List, [], _∷_, _++_}
+use mathlib.Core.Bool.{cond}
+use lib.Dec.{ltb}
+use borrow.Author.Tests.{lt-ltb, le-ltb}
+use lib.ListN.{length, set, take, drop, length-set, length-append, List·getD-append}
+use lib.Seq.{getD-set-same, getD-set-other, drop-set-lt, drop-drop, getD-append-add, getD-at, getD-drop}
 use Rattle.meaning.specs.Runs.{Violates, Holds}
+use Rattle.meaning.proofs.Folds.{Folds, folds-along, violates-folded}
 use Rattle.reading.specs.Parts.{tableOf, ruleOf}
 use Rattle.product.specs.Places.{Place}
 use Rattle.product.specs.Product.{place}
@@ -55,38 +59,61 @@ stands-later {i = i} none s = go (decLt (s .index) i)
 
 -- ---- what is written
 
--- n states of the codes from `base` on stand in the track from `at` on, and the rest is as it was
-pub record Wrote (ws : List ℕ) (base n : ℕ) (track : List ℕ) (at : ℕ) (track′ : List ℕ) : Type 0 where
+-- the state at index i of the run that the stacks hold: the outer stack, `outer` places deep, then the inner stack above its first place
+abbrev pub runIn : List ℕ → ℕ → ℕ → ℕ → ℕ
+runIn ws size outer i = cond (ltb i outer) (ws ! (size + i)) (ws ! (3 * size + 1 + (i - outer))) / 128
+
+-- n states of it lie there
+abbrev pub Lies : List ℕ → ℕ → ℕ → ℕ → Type 0
+Lies ws size outer n = (size + outer ≤ length ws) × (3 * size + 1 + n ≤ length ws + outer)
+
+-- n states of it stand in the track, and the rest is as it was
+pub record Wrote (ws : List ℕ) (size outer n : ℕ) (track track′ : List ℕ) : Type 0 where
   pub long : length track′ ≡ length track
-  pub states : (i : ℕ) → i < n → track′ ! (at + i) ≡ ws ! (base + i) / 128
-  pub before : (j : ℕ) → j < at → track′ ! j ≡ track ! j
-  pub behind : drop (at + n) track′ ≡ drop (at + n) track
+  pub states : (i : ℕ) → i < n → track′ ! i ≡ runIn ws size outer i
+  pub behind : drop n track′ ≡ drop n track
 
-pub wrote-none : (ws : List ℕ) (base : ℕ) (track : List ℕ) (at : ℕ) → Wrote ws base 0 track at track
-wrote-none ws base track at = record { long = refl; states = λ i h. absurd (not-suc-le-zero h); before = λ j h. refl; behind = refl }
+pub wrote-none : (ws : List ℕ) (size outer : ℕ) (track : List ℕ) → Wrote ws size outer 0 track track
+wrote-none ws size outer track = record { long = refl; states = λ i h. absurd (not-suc-le-zero h); behind = refl }
 
-pub wrote-more : {ws : List ℕ} {base n : ℕ} {track : List ℕ} {at : ℕ} {track′ : List ℕ} → Wrote ws base n track at track′ → at + n < length track
-    → (v : ℕ) → v ≡ ws ! (base + n) / 128 → Wrote ws base (n + 1) track at (set track′ (at + n) v)
-wrote-more {ws} {base} {n} {track} {at} {track′} w h v e = record {
-  long = length-set track′ (at + n) v ∙ w .long;
+pub wrote-more : {ws : List ℕ} {size outer n : ℕ} {track track′ : List ℕ} → Wrote ws size outer n track track′ → n < length track
+    → (v : ℕ) → v ≡ runIn ws size outer n → Wrote ws size outer (n + 1) track (set track′ n v)
+wrote-more {ws} {size} {outer} {n} {track} {track′} w h v e = record {
+  long = length-set track′ n v ∙ w .long;
   states = λ i l. go i l (ℕ-discrete i n);
-  before = λ j l. getD-set-other track′ (at + n) j v 0 (omega arith) ∙ w .before j l;
   behind =
-      drop-set-lt (at + (n + 1)) track′ (at + n) v (omega arith)
-      ∙ ap (λ (k : ℕ). drop k track′) (let q : at + (n + 1) ≡ at + n + 1 = omega arith in q)
-      ∙ sym (drop-drop 1 (at + n) track′)
+      drop-set-lt (n + 1) track′ n v (omega arith)
+      ∙ sym (drop-drop 1 n track′)
       ∙ ap (drop 1) (w .behind)
-      ∙ drop-drop 1 (at + n) track
-      ∙ ap (λ (k : ℕ). drop k track) (let q : at + n + 1 ≡ at + (n + 1) = omega arith in q);
+      ∙ drop-drop 1 n track;
 }
   where
-    go : (i : ℕ) → i < n + 1 → Dec (i ≡ n) → set track′ (at + n) v ! (at + i) ≡ ws ! (base + i) / 128
+    go : (i : ℕ) → i < n + 1 → Dec (i ≡ n) → set track′ n v ! i ≡ runIn ws size outer i
     go i l (yes q) =
-        ap (λ (k : ℕ). set track′ (at + n) v ! (at + k)) q
-        ∙ getD-set-same track′ (at + n) v 0 (omega (arith, w .long))
+        ap (λ (k : ℕ). set track′ n v ! k) q
+        ∙ getD-set-same track′ n v 0 (omega (arith, w .long))
         ∙ e
-        ∙ ap (λ (k : ℕ). ws ! (base + k) / 128) (sym q)
-    go i l (no q) = getD-set-other track′ (at + n) (at + i) v 0 (omega arith) ∙ w .states i (omega arith)
+        ∙ ap (runIn ws size outer) (sym q)
+    go i l (no q) = getD-set-other track′ n i v 0 (omega arith) ∙ w .states i (omega arith)
+
+-- the first n values of f, as a list
+values : (ℕ → ℕ) → ℕ → List ℕ
+values f zero = []
+values f (suc n) = values f n ++ (f n ∷ [])
+
+values-length : (f : ℕ → ℕ) (n : ℕ) → length (values f n) ≡ n
+unfolding values
+values-length f zero = refl
+values-length f (suc n) = length-append (values f n) (f n ∷ []) ∙ omega (arith, values-length f n)
+
+values-at : (f : ℕ → ℕ) (n i : ℕ) → i < n → values f n ! i ≡ f i
+unfolding values
+values-at f (suc n) i h = go (ℕ-discrete i n) (values-at f n i)
+  where
+    go : Dec (i ≡ n) → (i < n → values f n ! i ≡ f i) → (values f n ++ (f n ∷ [])) ! i ≡ f i
+    go (yes q) earlier = getD-at (values f n) (f n) [] 0 i (values-length f n ∙ sym q) ∙ ap f (sym q)
+    go (no q) earlier =
+        List·getD-append (values f n) (f n ∷ []) 0 i (omega (arith, values-length f n)) ∙ earlier (omega arith)
 
 -- ---- a loop is found
 
@@ -115,19 +142,16 @@ module _ {edges lanes starts : List ℕ} {guesses ones top size : ℕ} (x : Sett
         omega (arith, m .outer-is),
       )
 
-  -- both stacks lie in the workspace, and fit the track together
-  pub met-room : (track : List ℕ) → 2 * size ≤ length track
-      → (1 ≤ inner) × (size + outer ≤ length ws) × (3 * size + inner ≤ length ws) × (outer + inner ≤ length track + 1)
-  met-room track room = (
+  -- the run lies on both stacks, and is no longer than they are together
+  pub met-room : (1 ≤ inner) × Lies ws size outer (outer + inner - 1) × (outer + inner ≤ 2 * size + 1)
+  met-room = (
     omega (arith, m .inner-is),
-    omega (arith, m .outer-is, outer-lies),
-    omega (arith, m .inner-is, inner-lies),
+    (omega (arith, m .outer-is, outer-lies), omega (arith, m .outer-is, m .inner-is, inner-lies)),
     omega (arith, m .outer-is, m .inner-is, m .at .outer-fits, m .at .fits),
   )
 
-  -- with k its lowest index, and the stacks' states in the track
-  module _ {k : ℕ} (low : Lowest ws size code k) {track middle track′ : List ℕ}
-      (stem : Wrote ws size outer track 0 middle) (rest : Wrote ws (3 * size + 1) (inner - 1) middle outer track′) (room : 2 * size ≤ length track) where
+  -- with k its lowest index
+  module _ {k : ℕ} (low : Lowest ws size code k) where
     abbrev entries : List ℕ
     entries =
         stackAt (numberIn guesses top) size (suc (m .d)) ws ++ drop 1 (stackAt (numberIn guesses top) (3 * size) (suc (m .e)) ws)
@@ -143,20 +167,23 @@ module _ {edges lanes starts : List ℕ} {guesses ones top size : ℕ} (x : Sett
         (omega (arith, below-outer, stack-length (numberIn guesses top) size (suc (m .d)) ws outer-lies))
         (stack-at (numberIn guesses top) size (suc (m .d)) ws outer-lies k below-outer ∙ ap (numberIn guesses top) (low .here)))
 
-    -- an entry of the track is the state of the entry's place
-    entry : (i c : ℕ) → Coded (x .parts) c → entries ! i ≡ numberIn guesses top c → track′ ! i ≡ c / 128 → track′ ! i ≡ place (productOf (x .parts)) (entries ! i) .state
+    -- a state of the run is the state of the entry's place
+    abbrev Tracked : ℕ → Type 0
+    Tracked i = runIn ws size outer i ≡ place (productOf (x .parts)) (entries ! i) .state
+
+    entry : (i c : ℕ) → Coded (x .parts) c → entries ! i ≡ numberIn guesses top c → runIn ws size outer i ≡ c / 128 → Tracked i
     entry i c is e f =
         f ∙ sym (ap (λ (n : ℕ). place (productOf (x .parts)) n .state) (e ∙ number-is x c) ∙ ap (λ (p : Place). p .state) (coded-place (x .parts) (x .admitted) is))
 
-    tracked : (i : ℕ) → i < k + (suc (m .d) + m .e - k) → Dec (i < suc (m .d)) → track′ ! i ≡ place (productOf (x .parts)) (entries ! i) .state
+    tracked : (i : ℕ) → i < k + (suc (m .d) + m .e - k) → Dec (i < suc (m .d)) → Tracked i
     tracked i h (yes l) =
         entry i (ws ! (size + i)) (m .at .outer-coded i l)
         (List·getD-append (stackAt (numberIn guesses top) size (suc (m .d)) ws) _ 0 i (omega (arith, stack-length (numberIn guesses top) size (suc (m .d)) ws outer-lies))
         ∙ stack-at (numberIn guesses top) size (suc (m .d)) ws outer-lies i l)
-        (rest .before i (omega (arith, m .outer-is)) ∙ ap (λ (k : ℕ). middle ! k) (let z : i ≡ 0 + i = omega arith in z) ∙ stem .states i (omega (arith, m .outer-is)))
+        (rw (lt-ltb i outer (omega (arith, m .outer-is))))
     tracked i h (no n) = go (i - suc (m .d)) (omega arith)
       where
-        go : (j : ℕ) → i ≡ suc (m .d) + j → track′ ! i ≡ place (productOf (x .parts)) (entries ! i) .state
+        go : (j : ℕ) → i ≡ suc (m .d) + j → Tracked i
         go j q =
             let l : suc j < suc (m .e) = omega (arith, below-outer) in
             entry i (ws ! (3 * size + suc j)) (m .at .coded (suc j) l)
@@ -165,32 +192,38 @@ module _ {edges lanes starts : List ℕ} {guesses ones top size : ℕ} (x : Sett
             ∙ getD-drop 1 (stackAt (numberIn guesses top) (3 * size) (suc (m .e)) ws) j 0
             ∙ ap (λ (k : ℕ). stackAt (numberIn guesses top) (3 * size) (suc (m .e)) ws ! k) (let z : 1 + j ≡ suc j = omega arith in z)
             ∙ stack-at (numberIn guesses top) (3 * size) (suc (m .e)) ws inner-lies (suc j) l)
-            (ap (λ (k : ℕ). track′ ! k) (q ∙ ap (λ (k : ℕ). k + j) (sym (m .outer-is)))
-            ∙ rest .states j (omega (arith, m .inner-is))
-            ∙ ap (λ (k : ℕ). ws ! k / 128) (let z : 3 * size + 1 + j ≡ 3 * size + suc j = omega arith in z))
+            (let after : 3 * size + 1 + (i - outer) ≡ 3 * size + suc j = omega (arith, m .outer-is) in
+            rw (le-ltb i outer (omega (arith, m .outer-is)), after))
 
-    repeat-is : outer + inner - 1 - k ≡ suc (m .d) + m .e - k
-    repeat-is = omega (arith, m .outer-is, m .inner-is)
+    -- the run as it was found, in a list of its own
+    whole : List ℕ
+    whole = values (runIn ws size outer) (suc (m .d) + m .e)
 
-    pub met-violates : Violates (tableOf (x .parts)) (ruleOf (x .parts)) track′ k (outer + inner - 1 - k)
-    met-violates =
-        subst (λ (n : ℕ). Violates (tableOf (x .parts)) (ruleOf (x .parts)) track′ k n) (sym repeat-is)
-        (found-violates (x .parts) (x .admitted) entries track′ k (suc (m .d) + m .e - k)
+    whole-violates : Violates (tableOf (x .parts)) (ruleOf (x .parts)) whole k (suc (m .d) + m .e - k)
+    unfolding whole
+    whole-violates =
+        found-violates (x .parts) (x .admitted) entries whole k (suc (m .d) + m .e - k)
         (subst (λ (g : Graph). Lasso g entries k (suc (m .d) + m .e - k)) (graph-is x) lasso)
-        (omega (arith, rest .long, stem .long, m .at .outer-fits, m .at .fits, below-outer))
-        (λ i h. tracked i h (decLt i (suc (m .d)))))
+        (omega (arith, values-length (runIn ws size outer) (suc (m .d) + m .e), below-outer))
+        (λ i h.
+        values-at (runIn ws size outer) (suc (m .d) + m .e) i (omega (arith, below-outer))
+        ∙ tracked i h (decLt i (suc (m .d))))
 
-    pub met-rest : drop (k + (outer + inner - 1 - k)) track′ ≡ drop (k + (outer + inner - 1 - k)) track
-    met-rest =
-        let q : k + (outer + inner - 1 - k) ≡ outer + (inner - 1) = omega (arith, m .outer-is, m .inner-is, below-outer) in
-        ap (λ (n : ℕ). drop n track′) q
-        ∙ rest .behind
-        ∙ sym (drop-drop (inner - 1) outer middle)
-        ∙ ap (λ (n : ℕ). drop (inner - 1) (drop n middle)) (let z : outer ≡ 0 + outer = omega arith in z)
-        ∙ ap (drop (inner - 1)) (stem .behind)
-        ∙ ap (λ (n : ℕ). drop (inner - 1) (drop n track)) (let z : 0 + outer ≡ outer = omega arith in z)
-        ∙ drop-drop (inner - 1) outer track
-        ∙ ap (λ (n : ℕ). drop n track) (sym q)
+    -- and folded, in the track
+    module _ {s p : ℕ} (folded : Folds (runIn ws size outer) k (outer + inner - 1 - k) s p) {track track′ : List ℕ}
+        (wrote : Wrote ws size outer (s + p) track track′) (room : 2 * size ≤ length track) where
+      pub met-violates : Violates (tableOf (x .parts)) (ruleOf (x .parts)) track′ s p
+      unfolding whole
+      met-violates =
+          violates-folded whole-violates (folds-along (omega (arith, below-outer)) (λ i h. same i (omega (arith, below-outer))) (subst (λ (n : ℕ). Folds (runIn ws size outer) k n s p) repeat-is folded))
+          (omega (arith, wrote .long, short, m .at .outer-fits, m .at .fits))
+          (λ i h. wrote .states i h ∙ sym (same i (omega (arith, short))))
+        where
+          repeat-is : outer + inner - 1 - k ≡ suc (m .d) + m .e - k
+          repeat-is = omega (arith, m .outer-is, m .inner-is)
 
-    pub met-long : length track′ ≡ length track
-    met-long = rest .long ∙ stem .long
+          short : s + p ≤ suc (m .d) + m .e
+          short = omega (arith, folded .within, m .outer-is, m .inner-is, below-outer)
+
+          same : (i : ℕ) → i < suc (m .d) + m .e → whole ! i ≡ runIn ws size outer i
+          same = values-at (runIn ws size outer) (suc (m .d) + m .e)

@@ -6,7 +6,7 @@ use mathlib.Core.Path.{refl}
 use lib.ListN.{length-replicate}
 use Rattle.filled.proofs.Rows.{blank-zeros}
 use Rattle.workspace.proofs.Tracks.{met-stands, met-room}
-use Rattle.search.proofs.Prepared.{read, sizes-low, filling, edges-leaving, setting, rooting, started, decides-holds, decides-violated}
+use Rattle.search.proofs.Prepared.{read, sizes-low, places-are, places-few, filling, edges-leaving, setting, rooting, started, decides-holds, decides-violated}
 use borrow.Author.Needs.{needs}
 use Rattle.search.proofs.verdict.Statement.{statement}
 use Rattle.search.proofs.verdict.Tie as tie
@@ -97,7 +97,9 @@ show-requires c κs =
     let begun = started x (s .args .workspace .now) (s .pre .1 .1 .0 .0) (s .pre .1 .1 .0 .1) in
     let hit = c .before .before .before .outer .given in
     let m = c .before .before .before .before .before .before .before .search-roots .ensures .1 .1 x q refl begun (hit .0 .0) (hit .0 .1 .0) (hit .0 .1 .1 .0) (hit .1) in
-    (met-stands x m, met-room x m (s .args .track .now) (s .pre .1 .1 .1))
+    let few = places-few bytes shape case in
+    let room = met-room x m in
+    (met-stands x m, (room .0, room .1, omega (arith, room .2, s .pre .1 .1 .1), omega (arith, room .2, few, places-are bytes shape case, s .pre .1 .0)))
 
 same-length : tie.Need-same-length
 same-length c = search needs
@@ -137,7 +139,7 @@ returns-2 c =
     let on = c .before .before .before .before .before .before .before .before .before .before .search-roots .ensures in
     let m = on .1 .1 x q refl begun (hit .0 .0) (hit .0 .1 .0) (hit .0 .1 .1 .0) (hit .1) in
     let shown = c .before .before .show .ensures in
-    (on .0, λ lent. decides-violated x m (shown .3) (shown .4) (shown .5) (s .pre .1 .1 .1) (c .before .before .show .result) (shown .2) lent)
+    (on .0, λ lent. decides-violated x m (shown .4) (shown .5) (shown .6) (s .pre .1 .1 .1) (c .before .before .show .result) (shown .3) lent)
 
 pub verdict-spec : {M : Type 1} → statement M
 verdict-spec =

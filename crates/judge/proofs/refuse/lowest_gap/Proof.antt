@@ -7,7 +7,7 @@ use mathlib.Core.List.{List}
 use native.Mathlib.Omega.{arith}
 use borrow.Author.Count.{below-more}
 use Rattle.meaning.specs.Runs.{position}
-use Rattle.rule.proofs.Positions.{position-below}
+use Rattle.meaning.proofs.Positions.{position-below}
 use Rattle.reading.specs.Parts.{hasEdge}
 use Rattle.reading.proofs.Lowest.{lowest-is}
 use Rattle.judge.specs.Inner.{at}

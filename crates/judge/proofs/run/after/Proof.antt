@@ -5,7 +5,7 @@ use native.Mathlib.Omega.{arith}
 use borrow.Author.Needs.{needs}
 use Rattle.meaning.specs.Runs.{position}
 use Rattle.meaning.proofs.Loops.{position-in}
-use Rattle.rule.proofs.Positions.{position-closes}
+use Rattle.meaning.proofs.Positions.{position-closes}
 use Rattle.judge.proofs.run.after.Statement.{statement}
 use Rattle.judge.proofs.run.after.Tie as tie
 

@@ -9,7 +9,7 @@ use lib.Dec.{eqb}
 use Rattle.bits.specs.Bits.{bit}
 use Rattle.bits.proofs.Bit.{digit, eqb-digit}
 use Rattle.meaning.specs.Runs.{position}
-use Rattle.rule.proofs.Positions.{position-below}
+use Rattle.meaning.proofs.Positions.{position-below}
 use Rattle.judge.specs.Inner.{at, added, Stored}
 use Rattle.judge.proofs.Stores.{stored-none, stored-up, lower-bit-kept}
 use Rattle.judge.proofs.truths.add_next.Statement.{statement}
