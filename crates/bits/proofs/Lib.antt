@@ -2,3 +2,4 @@
 pub mod Bit
 pub mod Number
 pub mod Words
+pub mod Word

@@ -10,8 +10,8 @@ use Rattle.bits.specs.Bits.{bit}
 use Rattle.bits.proofs.Bit.{bit-of-zero}
 use Rattle.bits.proofs.Number.{equal-by-bits}
 use Rattle.bits.proofs.Words.{bit-and, bit-or, bit-xor, bit-complement, bit-ones}
-use Rattle.rule.specs.Word.{Word}
-use Rattle.rule.proofs.Words.{word-below, word-bit}
+use Rattle.bits.proofs.Word.{Word}
+use Rattle.bits.proofs.Word.{word-below, word-bit}
 use Rattle.product.specs.Product.{every}
 use Rattle.product.proofs.Steps.{T-every}
 

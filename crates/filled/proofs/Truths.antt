@@ -13,7 +13,7 @@ use Rattle.bits.specs.Bits.{bit}
 use Rattle.meaning.specs.Table.{Table, Node}
 use Rattle.meaning.specs.Laws.{operands, plain, now, stay, greatest}
 use Rattle.meaning.proofs.Operators.{cases}
-use Rattle.rule.specs.Word.{Word}
+use Rattle.bits.proofs.Word.{Word}
 use Rattle.rule.proofs.Operands.{plain-operands, now-operands, stay-operands}
 use Rattle.reading.specs.Parts.{nodeOf}
 use Rattle.product.specs.Product.{truth, meets, nowAt, stayAt, carried}

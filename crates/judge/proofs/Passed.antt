@@ -1,12 +1,12 @@
 -- What is known of a case and a run that nothing refuses: the run is one of the table's, the scratch has room, and the nodes' bytes are
 -- bits of an entry, so that the truth of each node can be told. Assumes nothing.
 use Prim.Native.Nat.{ℕ, suc, _+_, _-_, _≤_, _<_}
+use native.Mathlib.Decide.{decLt, ℕ-discrete}
 use mathlib.Core.Path.{_≡_, refl, sym, ap, _∙_, subst}
-use mathlib.Core.Bool.{Bool, true, false, cond, not, true≢false, _||_}
+use mathlib.Core.Bool.{Bool, true, false, not}
 use mathlib.Core.List.{List}
-use native.Mathlib.Nat.{lt-of-lt-of-le}
 use native.Mathlib.Omega.{arith}
-use lib.Dec.{T, leb, ltb, eqb}
+use lib.Dec.{T, ltb, eqb}
 use lib.ListN.{length, getD}
 use borrow.Author.Tests.{leb-false, ltb-false, eqb-false, not-false}
 use Rattle.meaning.specs.Table.{Table}
@@ -15,18 +15,15 @@ use Rattle.meaning.specs.Runs.{position, Run}
 use Rattle.meaning.proofs.Truths.{T-along}
 use Rattle.meaning.proofs.Loops.{position-in}
 use Rattle.meaning.proofs.Positions.{position-closes}
-use Rattle.reading.specs.Parts.{nodeOf, nodeCount}
-use Rattle.reading.specs.Refusals.{nodesRefusal, unknown, wrongByte, firstLimit, secondLimit}
-use Rattle.reading.specs.declared.Check as CaseCheck
-use Rattle.reading.specs.declared.CaseRefusal.the-variants.{Operator, Operand}
+use Rattle.reading.specs.Parts.{Parts, nodeOf, nodeCount}
 use Rattle.reading.specs.Lowest.{any}
 use Rattle.reading.proofs.Lowest.{any-false}
-use Rattle.reading.proofs.Facts.{nowhere}
+use Rattle.reading.proofs.Admitted.{Admitted}
 use Rattle.judge.specs.declared.RunRefusal.{RunRefusal}
 use Rattle.judge.specs.declared.RunCheck.{RunCheck}
 use Rattle.judge.specs.declared.RunCheck.the-variants.{Passed}
 use Rattle.judge.specs.Refusals.{refusedIf, outside, gap, storedRefusal, runRefusal}
-use Rattle.judge.specs.Inner.{width}
+use Rattle.scratch.proofs.Scratch.{width}
 
 -- ---- a row that did not refuse, and the later ones
 
@@ -102,41 +99,21 @@ module _ {t : Table} {track : List ℕ} {k m room : ℕ} (f : Free t track k m r
 
 -- ---- the nodes' bytes
 
-none-of : (a b : Bool) → (a || b) ≡ false → (a ≡ false) × (b ≡ false)
-none-of false b e = (refl, e)
-none-of true b e = absurd (true≢false e)
+module _ {p : Parts} (a : Admitted p) (n : ℕ) (h : n < nodeCount (p .nodeList)) where
+  abbrev operator : ℕ
+  operator = nodeOf (p .nodeList) n .operator
 
-limit-narrow : (c d : Bool) (a n : ℕ) → a ≤ 16 → n ≤ width → cond c a (cond d n 1) ≤ width
-limit-narrow true d a n ha hn = omega arith
-limit-narrow false true a n ha hn = omega arith
-limit-narrow false false a n ha hn = omega arith
+  pub first-narrow : nodeOf (p .nodeList) n .first < width
+  first-narrow = go (ℕ-discrete operator 1) (decLt 0 (operands operator))
+    where
+      go : Dec (operator ≡ 1) → Dec (0 < operands operator) → nodeOf (p .nodeList) n .first < width
+      go (yes atom) d = omega (arith, a .atoms-below n h atom, a .few-atoms)
+      go (no other) (yes some) = omega (arith, a .ordered .first-lower n h some, a .few-nodes)
+      go (no other) (no none) = omega (arith, a .first-unused n h (omega arith) other)
 
-module _ (atoms : ℕ) (nodes : List ℕ) (passed : nodesRefusal atoms nodes ≡ CaseCheck.Check.Passed) (few-atoms : atoms ≤ 16)
-    (few-nodes : nodeCount nodes ≤ width) (n : ℕ) (h : n < nodeCount nodes) where
-  right : wrongByte atoms nodes n ≡ false
-  unfolding nodesRefusal
-  right =
-      none-of (unknown nodes n) (wrongByte atoms nodes n)
-      (nowhere (λ x. unknown nodes x || wrongByte atoms nodes x) (nodeCount nodes)
-      (λ x. cond (unknown nodes x) (Operator x) (Operand x)) passed n h)
-      .1
-
-  limits : (leb (firstLimit (nodeOf nodes n .operator) atoms n) (nodeOf nodes n .first) ≡ false)
-      × (leb (secondLimit (nodeOf nodes n .operator) n) (nodeOf nodes n .second) ≡ false)
-  unfolding wrongByte
-  limits = none-of _ _ right
-
-  first-limit : firstLimit (nodeOf nodes n .operator) atoms n ≤ width
-  unfolding firstLimit
-  first-limit =
-      limit-narrow (eqb (nodeOf nodes n .operator) 1) (leb 1 (operands (nodeOf nodes n .operator))) atoms n few-atoms (omega arith)
-
-  second-limit : secondLimit (nodeOf nodes n .operator) n ≤ width
-  unfolding secondLimit
-  second-limit = limit-narrow false (leb 2 (operands (nodeOf nodes n .operator))) 0 n (omega arith) (omega arith)
-
-  pub first-narrow : nodeOf nodes n .first < width
-  first-narrow = lt-of-lt-of-le (leb-false _ _ (limits .0)) first-limit
-
-  pub second-narrow : nodeOf nodes n .second < width
-  second-narrow = lt-of-lt-of-le (leb-false _ _ (limits .1)) second-limit
+  pub second-narrow : nodeOf (p .nodeList) n .second < width
+  second-narrow = go (decLt 1 (operands operator))
+    where
+      go : Dec (1 < operands operator) → nodeOf (p .nodeList) n .second < width
+      go (yes two) = omega (arith, a .ordered .second-lower n h two, a .few-nodes)
+      go (no less) = omega (arith, a .second-unused n h (omega arith))

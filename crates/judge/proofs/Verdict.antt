@@ -19,13 +19,13 @@ use Rattle.reading.specs.Refusals.{partsOf, refusal}
 use Rattle.reading.proofs.Admitted.{Admitted}
 use Rattle.reading.specs.declared.Check.{Check}
 use Rattle.reading.specs.declared.CaseRefusal.{CaseRefusal}
-use Rattle.reading.proofs.Known.{passed-parts, rows-passed, admitted}
+use Rattle.reading.proofs.Known.{admitted}
 use Rattle.judge.specs.declared.RunRefusal.{RunRefusal}
 use Rattle.judge.specs.declared.RunCheck.{RunCheck}
 use Rattle.judge.specs.declared.Answer.the-variants.{CaseRefused, RunRefused, Satisfied, Violated}
 use Rattle.judge.specs.Refusals.{storedRefusal, runRefusal}
 use Rattle.judge.specs.Judged.{Judged}
-use Rattle.judge.specs.Inner.{tableFrom, labelsOf, Telling}
+use Rattle.scratch.proofs.Scratch.{tableFrom, labelsOf, Telling}
 use Rattle.judge.proofs.Passed.{Free, free, free-run, free-room, first-narrow, second-narrow}
 
 -- ---- a refused case writes nothing
@@ -79,10 +79,8 @@ module _ (bytes : List ℕ) (passed : refusal bytes ≡ Check.Passed) (track : L
           room = free-room allowed;
           few-nodes = facts .few-nodes;
           ordered = facts .ordered;
-          first-narrow =
-              first-narrow (p .atoms) (p .nodeList) (rows-passed p (passed-parts bytes passed) .by-nodes) (facts .few-atoms) (facts .few-nodes);
-          second-narrow =
-              second-narrow (p .atoms) (p .nodeList) (rows-passed p (passed-parts bytes passed) .by-nodes) (facts .few-atoms) (facts .few-nodes);
+          first-narrow = first-narrow facts;
+          second-narrow = second-narrow facts;
         }
 
     pub some-node : 1 ≤ nodeCount (p .nodeList)

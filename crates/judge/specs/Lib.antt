@@ -1,4 +1,4 @@
--- What is believed of the judge, in the order of the paper; and, in `Inner`, what its inner functions ask and leave.
+-- What is believed of the judge, in the order of the paper.
 pub mod Refusals
 pub mod Judged
-pub mod Inner
+pub mod Node

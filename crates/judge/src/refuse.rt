@@ -8,7 +8,7 @@ ghost use Rattle.meaning.specs.Runs.{position};
 ghost use Rattle.reading.specs.Lowest.{lowest};
 ghost use Rattle.reading.specs.Parts.{hasEdge};
 ghost use Rattle.judge.specs.Refusals.{storedRefusal, runRefusal};
-ghost use Rattle.judge.specs.Inner.{at, tableFrom};
+ghost use Rattle.scratch.proofs.Scratch.{at, tableFrom};
 use crate::RunCheck;
 use crate::RunRefusal;
 use crate::run;

@@ -12,7 +12,8 @@ ghost use Rattle.meaning.specs.Runs.{position};
 ghost use Rattle.rule.proofs.Passes.{pass, seed as seedOf};
 ghost use Rattle.rule.proofs.Entries.{entries};
 ghost use Rattle.reading.specs.Parts.{nodeOf, nodeCount};
-ghost use Rattle.judge.specs.Inner.{width, nodeIs, nowIn, stayIn, at, Stored, added, Adding, Known, Labelled, labelsOf, Telling, Valued};
+ghost use Rattle.judge.specs.Node.{nodeIs};
+ghost use Rattle.scratch.proofs.Scratch.{width, nowIn, stayIn, at, Stored, added, Adding, Known, Labelled, labelsOf, Telling, Valued};
 use crate::run;
 use reading::parts;
 
@@ -56,7 +57,7 @@ fn clear(scratch: &mut [Entry], count: usize)
 
 // Operators 0 to 5 at one entry.
 fn plain_added(word: Entry, label: u16, node: Node, n: usize) -> Entry
-    requires { ⌜ (node .operator < 6) × Known node × (n < width) × (word < 2 ^ n) ⌝ }
+    requires { ⌜ (node .operator < 6) × Known (nodeIs node) × (n < width) × (word < 2 ^ n) ⌝ }
     ensures { λ r. ⌜ r ≡ added word n (plain (node .operator) (bitOf label (node .first)) (bitOf word (node .first)) (bitOf word (node .second))) ⌝ }
 {
     let atom = truth(label as Entry, node.first);
@@ -79,7 +80,7 @@ fn add_plain(
     count: usize,
     scratch: &mut [Entry],
 )
-    requires { ⌜ (node .operator < 6) × Known node × Adding n count (now scratch) × Labelled count (now states) (now track) ⌝ }
+    requires { ⌜ (node .operator < 6) × Known (nodeIs node) × Adding n count (now scratch) × Labelled count (now states) (now track) ⌝ }
     ensures { λ r. ⌜ Stored 0 count (λ i. added (at (now (scratch .entry)) i) n (plain (node .operator) (bitOf (labelsOf (now (states .entry)) (now (track .entry)) i) (node .first)) (bitOf (at (now (scratch .entry)) i) (node .first)) (bitOf (at (now (scratch .entry)) i) (node .second)))) (now (scratch .entry)) (now (scratch .exit)) ⌝ }
 {
     let mut i = 0;
@@ -92,7 +93,7 @@ fn add_plain(
 
 // X is its operand at the next entry.
 fn add_next(node: Node, n: usize, k: usize, m: usize, scratch: &mut [Entry])
-    requires { ⌜ Known node × Adding n (k + m) (now scratch) × (1 ≤ m) × (node .first < n) ⌝ }
+    requires { ⌜ Known (nodeIs node) × Adding n (k + m) (now scratch) × (1 ≤ m) × (node .first < n) ⌝ }
     ensures { λ r. ⌜ Stored 0 (k + m) (λ i. added (at (now (scratch .entry)) i) n (bitOf (at (now (scratch .entry)) (position k m (suc i))) (node .first))) (now (scratch .entry)) (now (scratch .exit)) ⌝ }
 {
     let mut i = 0;
@@ -105,7 +106,7 @@ fn add_next(node: Node, n: usize, k: usize, m: usize, scratch: &mut [Entry])
 
 // Operators 7 to 11 at one entry, from their truth at the next.
 fn carried(word: Entry, node: Node, next: u16) -> u16
-    requires { ⌜ (7 ≤ node .operator) × Known node × (next ≤ 1) ⌝ }
+    requires { ⌜ (7 ≤ node .operator) × Known (nodeIs node) × (next ≤ 1) ⌝ }
     ensures { λ r. ⌜ (r ≡ digit (nowOf (node .operator) (bitOf word (node .first)) (bitOf word (node .second)) || (stay (node .operator) (bitOf word (node .first)) (bitOf word (node .second)) && eqb next 1))) × (r ≤ 1) ⌝ }
 {
     let first = truth(word, node.first);
@@ -116,8 +117,8 @@ fn carried(word: Entry, node: Node, next: u16) -> u16
 
 // The first pass: over the loop from the last entry down, with the pole as the seed. It gives the truth at entry k.
 fn loop_seed(node: Node, k: usize, m: usize, scratch: &[Entry]) -> u16
-    requires { ⌜ (7 ≤ node .operator) × Known node × (k + m ≤ length (now scratch)) ⌝ }
-    ensures { λ r. ⌜ (r ≡ digit (seedOf (nowIn node (now (scratch .entry))) (stayIn node (now (scratch .entry))) (greatest (node .operator)) k m)) × (r ≤ 1) ⌝ }
+    requires { ⌜ (7 ≤ node .operator) × Known (nodeIs node) × (k + m ≤ length (now scratch)) ⌝ }
+    ensures { λ r. ⌜ (r ≡ digit (seedOf (nowIn (nodeIs node) (now (scratch .entry))) (stayIn (nodeIs node) (now (scratch .entry))) (greatest (node .operator)) k m)) × (r ≤ 1) ⌝ }
 {
     let mut next = rule::pole_word(node.operator, 1);
     let mut i = k + m;
@@ -130,8 +131,8 @@ fn loop_seed(node: Node, k: usize, m: usize, scratch: &[Entry]) -> u16
 
 // The second pass: over all entries from the last down, from the truth at entry k, which comes after the last.
 fn add_lasting(node: Node, n: usize, count: usize, seed: u16, scratch: &mut [Entry])
-    requires { ⌜ (7 ≤ node .operator) × Known node × Adding n count (now scratch) × (seed ≤ 1) ⌝ }
-    ensures { λ r. ⌜ Stored 0 count (λ i. added (at (now (scratch .entry)) i) n (pass (nowIn node (now (scratch .entry))) (stayIn node (now (scratch .entry))) (eqb seed 1) i (count - i))) (now (scratch .entry)) (now (scratch .exit)) ⌝ }
+    requires { ⌜ (7 ≤ node .operator) × Known (nodeIs node) × Adding n count (now scratch) × (seed ≤ 1) ⌝ }
+    ensures { λ r. ⌜ Stored 0 count (λ i. added (at (now (scratch .entry)) i) n (pass (nowIn (nodeIs node) (now (scratch .entry))) (stayIn (nodeIs node) (now (scratch .entry))) (eqb seed 1) i (count - i))) (now (scratch .entry)) (now (scratch .exit)) ⌝ }
 {
     let mut next = seed;
     let mut i = count;

@@ -37,6 +37,8 @@ pub record Admitted (p : Parts) : Type 0 where
   pub ordered : Ordered (nodeOf (p .nodeList)) (nodeCount (p .nodeList))
   pub atoms-below : (n : ℕ) → n < nodeCount (p .nodeList) → nodeOf (p .nodeList) n .operator ≡ 1
       → nodeOf (p .nodeList) n .first < p .atoms
+  pub first-unused : (n : ℕ) → n < nodeCount (p .nodeList) → operands (nodeOf (p .nodeList) n .operator) ≤ 0
+      → (nodeOf (p .nodeList) n .operator ≡ 1 → ⊥) → nodeOf (p .nodeList) n .first ≡ 0
   pub second-unused : (n : ℕ) → n < nodeCount (p .nodeList) → operands (nodeOf (p .nodeList) n .operator) ≤ 1
       → nodeOf (p .nodeList) n .second ≡ 0
   -- "T counts the nodes with operators 6 to 11 and is at most 4; E those with operators 7 to 11"

@@ -97,6 +97,10 @@ first-limit-atom : (o a n : ℕ) → o ≡ 1 → firstLimit o a n ≡ a
 unfolding firstLimit
 first-limit-atom o a n e = rw (eq-eqb o 1 e) refl
 
+first-limit-unused : (o a n : ℕ) → operands o ≤ 0 → (o ≡ 1 → ⊥) → firstLimit o a n ≡ 1
+unfolding firstLimit
+first-limit-unused o a n h e = rw (ne-eqb o 1 e, lt-leb 1 (operands o) (omega arith)) refl
+
 second-limit-operand : (o n : ℕ) → 2 ≤ operands o → secondLimit o n ≡ n
 unfolding secondLimit
 second-limit-operand o n h = rw (le-leb 2 (operands o) h) refl
@@ -127,6 +131,9 @@ module _ (atoms : ℕ) (list : List ℕ) (passed : nodesRefusal atoms list ≡ P
 
   pub atom-below : nodeOf list n .operator ≡ 1 → nodeOf list n .first < atoms
   atom-below o = rw (first-limit-atom (nodeOf list n .operator) atoms n o) at first-right
+
+  pub first-zero : operands (nodeOf list n .operator) ≤ 0 → (nodeOf list n .operator ≡ 1 → ⊥) → nodeOf list n .first ≡ 0
+  first-zero o e = let low : nodeOf list n .first < 1 = rw (first-limit-unused (nodeOf list n .operator) atoms n o e) at first-right in omega arith
 
   pub second-operand-lower : 2 ≤ operands (nodeOf list n .operator) → nodeOf list n .second < n
   second-operand-lower o = rw (second-limit-operand (nodeOf list n .operator) n o) at second-right

@@ -16,7 +16,7 @@ use Rattle.reading.specs.declared.Check.the-variants.{Passed, Refused}
 use Rattle.reading.specs.declared.Shape.{Shape}
 use Rattle.reading.specs.declared.Case.{Case}
 use Rattle.reading.proofs.Fields.{then-first, then-later, not-refused, Fields, fields-passed}
-use Rattle.reading.proofs.Facts.{label-low, flag-low, no-bit-above, from-below, to-below, in-order, edges-rise, known-operator, first-operand-lower, second-operand-lower, atom-below, second-zero, eventualities-temporal}
+use Rattle.reading.proofs.Facts.{label-low, flag-low, no-bit-above, from-below, to-below, in-order, edges-rise, known-operator, first-operand-lower, second-operand-lower, atom-below, first-zero, second-zero, eventualities-temporal}
 
 -- ---- the parts' sizes
 
@@ -108,6 +108,7 @@ module _ (bytes : List ℕ) (e : refusal bytes ≡ Passed) where
               second-lower = second-operand-lower _ _ (rows .by-nodes);
             };
         atoms-below = atom-below _ _ (rows .by-nodes);
+        first-unused = first-zero _ _ (rows .by-nodes);
         second-unused = second-zero _ _ (rows .by-nodes);
         few-temporals = temporals-few (partsOf bytes) (rows .by-temporals);
         fewer-eventualities = eventualities-temporal _;

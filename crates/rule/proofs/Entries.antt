@@ -15,9 +15,8 @@ use Rattle.meaning.specs.Runs.{position, endless}
 use Rattle.meaning.proofs.Truths.{T-along}
 use Rattle.meaning.proofs.Loops.{position-in, position-repeats}
 use Rattle.meaning.proofs.Valuation.{Valuation}
-use Rattle.rule.specs.Value.{truth, value}
 use Rattle.rule.proofs.Operands.{now-operands, stay-operands}
-use Rattle.rule.proofs.Values.{value-below, value-lower, value-guessed, value-computes}
+use Rattle.rule.proofs.Values.{truth, value, value-below, value-lower, value-guessed, value-computes}
 use Rattle.meaning.proofs.Positions.{position-turns, position-below, position-next}
 use Rattle.rule.proofs.Passes.{lasting, lasting-unrolls, lasting-kept}
 

@@ -1,5 +1,4 @@
 -- What is shown of words and values.
-pub mod Words
 pub mod Operands
 pub mod Values
 pub mod Passes

@@ -1,8 +1,9 @@
--- The value of the first n nodes at a place: it is below 2 ^ n, a later node moves no lower bit, plain nodes compute from it, and
+-- The value of a rule's first n nodes at one place, the number whose bit n is the truth of node n there: it is below 2 ^ n, a later node moves no lower bit, plain nodes compute from it, and
 -- the others are as guessed. Assumes nothing.
-use Prim.Native.Nat.{ℕ, zero, suc, _^_, _≤_, _<_}
+use Prim.Native.Nat.{ℕ, zero, suc, _+_, _^_, _≤_, _<_}
 use mathlib.Core.Path.{_≡_, sym, _∙_}
-use mathlib.Core.Bool.{Bool}
+use mathlib.Core.Bool.{Bool, cond}
+use lib.Dec.{ltb}
 use mathlib.Core.Logic.{⊎-elim}
 use native.Mathlib.Nat.{eq-or-lt-of-le, le-of-suc-le-suc}
 use native.Mathlib.Omega.{arith}
@@ -11,8 +12,22 @@ use Rattle.bits.specs.Bits.{bit}
 use Rattle.bits.proofs.Number.{bit-added, bit-added-below, added-below}
 use Rattle.meaning.specs.Table.{Node}
 use Rattle.meaning.specs.Laws.{Ordered, plain}
-use Rattle.rule.specs.Value.{truth, value}
 use Rattle.rule.proofs.Operands.{plain-operands}
+
+-- The truth of a node at a place with this label, where the nodes below it have the value `lower`: operators 0 to 5 compute, and
+-- the truth of operators 6 to 11 is guessed.
+unfoldable pub truth : Node → ℕ → Bool → ℕ → Bool
+truth node label guessed lower =
+    cond (ltb (node .operator) 6)
+    (plain (node .operator) (bit label (node .first)) (bit lower (node .first)) (bit lower (node .second)))
+    guessed
+
+-- "The value of nodes 0 to n at a place is that of nodes 0 to n-1 with node n's added"
+unfoldable pub value : (ℕ → Node) → ℕ → (ℕ → Bool) → ℕ → ℕ
+value node label guess zero = 0
+value node label guess (suc n) =
+    let lower = value node label guess n in
+    lower + cond (truth (node n) label (guess n) lower) (2 ^ n) 0
 
 module _ (node : ℕ → Node) (label : ℕ) (guess : ℕ → Bool) where
   -- node n's own truth, on top of the nodes below it

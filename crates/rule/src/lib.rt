@@ -3,11 +3,11 @@
 ghost use Prim.Native.Nat.{_≤_, _<_};
 ghost use Rattle.bits.specs.Bits.{bit};
 ghost use Rattle.meaning.specs.Laws.{plain, now as nowOf, stay, greatest};
-ghost use Rattle.rule.specs.Word.{Word, Plain, Temporal};
+ghost use Rattle.bits.proofs.Word.{Word};
 
 // Operators 0 to 5: true, atom, not, and, or, implies.
 pub fn plain_word(operator: usize, atom: u16, a: u16, b: u16, ones: u16) -> u16
-    requires { ⌜ Plain operator atom a b ones ⌝ }
+    requires { ⌜ (operator < 6) × (atom ≤ ones) × (a ≤ ones) × (b ≤ ones) ⌝ }
     ensures { λ r. ⌜ Word ones (λ j. plain operator (bit atom j) (bit a j) (bit b j)) r ⌝ }
 {
     match operator {
@@ -22,7 +22,7 @@ pub fn plain_word(operator: usize, atom: u16, a: u16, b: u16, ones: u16) -> u16
 
 // Where an operator of 6 to 11 is true at once: X never (it waits for the next position), F a, G never, U b, R a and b, W b.
 pub fn now_word(operator: usize, a: u16, b: u16, ones: u16) -> u16
-    requires { ⌜ Temporal operator a b ones ⌝ }
+    requires { ⌜ (6 ≤ operator) × (operator < 12) × (a ≤ ones) × (b ≤ ones) ⌝ }
     ensures { λ r. ⌜ Word ones (λ j. nowOf operator (bit a j) (bit b j)) r ⌝ }
 {
     match operator {
@@ -37,7 +37,7 @@ pub fn now_word(operator: usize, a: u16, b: u16, ones: u16) -> u16
 
 // Where an operator of 6 to 11 is true if it is true at the next position: X and F always, G, U and W where a is, R where b is.
 pub fn stay_word(operator: usize, a: u16, b: u16, ones: u16) -> u16
-    requires { ⌜ Temporal operator a b ones ⌝ }
+    requires { ⌜ (6 ≤ operator) × (operator < 12) × (a ≤ ones) × (b ≤ ones) ⌝ }
     ensures { λ r. ⌜ Word ones (λ j. stay operator (bit a j) (bit b j)) r ⌝ }
 {
     match operator {

@@ -13,7 +13,7 @@ use Rattle.reading.specs.declared.Check.{Check}
 use Rattle.reading.proofs.Known.{known}
 use Rattle.judge.specs.declared.RunCheck.{RunCheck}
 use Rattle.judge.specs.Refusals.{runRefusal}
-use Rattle.judge.specs.Inner.{tableFrom, labelsOf, Telling}
+use Rattle.scratch.proofs.Scratch.{tableFrom, labelsOf, Telling}
 use Rattle.judge.proofs.Verdict.{judged-run, judged-true, judged-false, telling, some-node}
 use Rattle.judge.proofs.judge_admitted.Statement.{statement}
 use Rattle.judge.proofs.judge_admitted.Tie as tie

@@ -1,7 +1,7 @@
 -- `rule::pole_word` meets its contract: each arm makes the word that its row of the table says. Assumes nothing.
 use mathlib.Core.Path.{_≡_}
 use native.Mathlib.Omega.{arith}
-use Rattle.rule.proofs.Words.{word-false, word-true}
+use Rattle.bits.proofs.Word.{word-false, word-true}
 use Rattle.rule.proofs.pole_word.Statement.{statement}
 use Rattle.rule.proofs.pole_word.Tie as tie
 

@@ -3,7 +3,7 @@ use mathlib.Core.Path.{_∙_}
 use native.Mathlib.Omega.{arith}
 use borrow.Author.Needs.{needs}
 use Rattle.meaning.specs.Table.{Table}
-use Rattle.judge.specs.Inner.{tableFrom}
+use Rattle.scratch.proofs.Scratch.{tableFrom}
 use Rattle.judge.proofs.Refused.{refused-50, refused-51, stored-run}
 use Rattle.judge.proofs.refuse.check_run.Statement.{statement}
 use Rattle.judge.proofs.refuse.check_run.Tie as tie

@@ -8,7 +8,7 @@ use borrow.Author.Tests.{leb-false, not-true, not-false}
 use Rattle.meaning.specs.Table.{Table}
 use Rattle.reading.specs.Parts.{initialOf}
 use Rattle.reading.proofs.Lowest.{lowest-passed}
-use Rattle.judge.specs.Inner.{at, tableFrom}
+use Rattle.scratch.proofs.Scratch.{at, tableFrom}
 use Rattle.judge.specs.Refusals.{outside}
 use Rattle.judge.proofs.Refused.{refused-52, refused-53, refused-54, refused-40, passed-stored}
 use Rattle.judge.proofs.refuse.check_stored.Statement.{statement}

@@ -10,7 +10,7 @@ use Rattle.meaning.specs.Runs.{position}
 use Rattle.meaning.proofs.Positions.{position-below}
 use Rattle.reading.specs.Parts.{hasEdge}
 use Rattle.reading.proofs.Lowest.{lowest-is}
-use Rattle.judge.specs.Inner.{at}
+use Rattle.scratch.proofs.Scratch.{at}
 use Rattle.judge.proofs.refuse.lowest_gap.Statement.{statement}
 use Rattle.judge.proofs.refuse.lowest_gap.Tie as tie
 

@@ -8,7 +8,7 @@ use lib.Dec.{leb}
 use borrow.Author.Count.{below-more}
 use borrow.Author.Tests.{le-leb, lt-leb}
 use Rattle.reading.proofs.Lowest.{lowest-is}
-use Rattle.judge.specs.Inner.{at}
+use Rattle.scratch.proofs.Scratch.{at}
 use Rattle.judge.proofs.refuse.lowest_outside.Statement.{statement}
 use Rattle.judge.proofs.refuse.lowest_outside.Tie as tie
 

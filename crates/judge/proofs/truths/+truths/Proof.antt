@@ -5,9 +5,9 @@ use mathlib.Core.Path.{_≡_, sym, ap, _∙_, subst}
 use native.Mathlib.Omega.{arith}
 use Rattle.rule.proofs.Entries.{entries}
 use Rattle.reading.specs.Parts.{nodeOf}
-use Rattle.judge.specs.Inner.{labelsOf, Stored}
-use Rattle.judge.proofs.Stores.{stored-twice, stored-already}
-use Rattle.judge.proofs.Telling.{telling-kept}
+use Rattle.scratch.proofs.Scratch.{labelsOf, Stored}
+use Rattle.scratch.proofs.Stores.{stored-twice, stored-already}
+use Rattle.scratch.proofs.Telling.{telling-kept}
 use borrow.Fn.Kinds.{In}
 use borrow.Fn.PlainCycle.{Measures, is, falls, and}
 use Rattle.judge.proofs.truths.truths.Reads as truths

@@ -11,15 +11,16 @@ use Rattle.bits.proofs.Bit.{digit, digit-eqb, eqb-digit}
 use Rattle.meaning.specs.Laws.{now, stay}
 use Rattle.rule.proofs.Passes.{pass}
 use Rattle.judge.specs.declared.truths.Node.{Node}
-use Rattle.judge.specs.Inner.{at, added, nowIn, stayIn, Stored}
-use Rattle.judge.proofs.Bits.{pass-digit}
-use Rattle.judge.proofs.Stores.{stored-none, stored-down}
+use Rattle.judge.specs.Node.{nodeIs}
+use Rattle.scratch.proofs.Scratch.{at, added, nowIn, stayIn, Stored}
+use Rattle.scratch.proofs.Bits.{pass-digit}
+use Rattle.scratch.proofs.Stores.{stored-none, stored-down}
 use Rattle.judge.proofs.truths.add_lasting.Statement.{statement}
 use Rattle.judge.proofs.truths.add_lasting.Tie as tie
 
 -- the truth that the pass carries to entry i, and the entry with it
 abbrev carriedTo : Node → ℕ → ℕ → List ℕ → ℕ → Bool
-carriedTo node count seed l i = pass (nowIn node l) (stayIn node l) (eqb seed 1) i (count - i)
+carriedTo node count seed l i = pass (nowIn (nodeIs node) l) (stayIn (nodeIs node) l) (eqb seed 1) i (count - i)
 
 abbrev entry : Node → ℕ → ℕ → ℕ → List ℕ → ℕ → ℕ
 entry node n count seed l i = added (at l i) n (carriedTo node count seed l i)
@@ -71,7 +72,7 @@ unfolding stepped
 turn c =
     let a = start c .args in
     let at-loop = c .before .before .before .loop in
-    pass-digit (nowIn (a .node) (a .scratch .now)) (stayIn (a .node) (a .scratch .now)) (eqb (a .seed) 1) (a .count)
+    pass-digit (nowIn (nodeIs (a .node)) (a .scratch .now)) (stayIn (nodeIs (a .node)) (a .scratch .now)) (eqb (a .seed) 1) (a .count)
     (at-loop .i) (at-loop .next) (c .carried .result) (at-loop .inv .2)
     (subst (λ (w : ℕ). c .carried .result ≡ digit (stepped (a .node) (at-loop .next) w))
     (at-loop .inv .3 .under (at-loop .i - 1) (omega arith)) (c .carried .ensures .0))

@@ -10,8 +10,8 @@ use Rattle.bits.specs.Bits.{bit}
 use Rattle.bits.proofs.Bit.{digit, eqb-digit}
 use Rattle.meaning.specs.Runs.{position}
 use Rattle.meaning.proofs.Positions.{position-below}
-use Rattle.judge.specs.Inner.{at, added, Stored}
-use Rattle.judge.proofs.Stores.{stored-none, stored-up, lower-bit-kept}
+use Rattle.scratch.proofs.Scratch.{at, added, Stored}
+use Rattle.scratch.proofs.Stores.{stored-none, stored-up, lower-bit-kept}
 use Rattle.judge.proofs.truths.add_next.Statement.{statement}
 use Rattle.judge.proofs.truths.add_next.Tie as tie
 

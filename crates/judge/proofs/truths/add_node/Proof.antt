@@ -2,8 +2,9 @@
 use Prim.Native.Nat.{_+_}
 use native.Mathlib.Omega.{arith}
 use borrow.Author.Needs.{needs}
-use Rattle.judge.specs.Inner.{Adding, Known}
-use Rattle.judge.proofs.Telling.{adding, known-node, next-lower, left-by-plain, left-by-next, left-by-passes}
+use Rattle.judge.specs.Node.{nodeIs}
+use Rattle.scratch.proofs.Scratch.{Adding, Known}
+use Rattle.scratch.proofs.Telling.{adding, known-node, next-lower, left-by-plain, left-by-next, left-by-passes}
 use Rattle.judge.proofs.truths.add_node.Statement.{statement}
 use Rattle.judge.proofs.truths.add_node.Tie as tie
 
@@ -13,12 +14,12 @@ node-at-requires c κs = search needs
 abbrev start : tie.After-node-at → tie.Start
 start c = c .before .before .before .before .before
 
-known-here : (c : tie.After-node-at) → Known (c .node-at .result)
+known-here : (c : tie.After-node-at) → Known (nodeIs (c .node-at .result))
 known-here c =
     let a = start c .args in
     let p = start c .pre in
     known-node (a .states .now) (a .nodes .now) (a .track .now) (a .k) (a .m) (a .n) (a .scratch .now) (p .0) (p .1) (p .2)
-    (c .node-at .result) (c .node-at .ensures)
+    (nodeIs (c .node-at .result)) (c .node-at .ensures)
 
 adding-here : (c : tie.After-node-at) → Adding (start c .args .n) (start c .args .k + start c .args .m) (start c .args .scratch .now)
 adding-here c =
@@ -42,7 +43,7 @@ returns c =
     let a = start n .args in
     let p = start n .pre in
     left-by-plain (a .states .now) (a .nodes .now) (a .track .now) (a .k) (a .m) (a .n) (a .scratch .now) (p .0) (p .1) (p .2)
-    (n .node-at .result) (n .node-at .ensures) _ (omega arith) (c .before .before .add-plain .ensures)
+    (nodeIs (n .node-at .result)) (n .node-at .ensures) _ (omega arith) (c .before .before .add-plain .ensures)
 
 add-next-requires : tie.Need-add-next-requires
 add-next-requires c κs =
@@ -53,7 +54,7 @@ add-next-requires c κs =
       adding-here n,
       p .0 .loops,
       next-lower (a .states .now) (a .nodes .now) (a .track .now) (a .k) (a .m) (a .n) (a .scratch .now) (p .0) (p .1) (p .2)
-          (n .node-at .result) (n .node-at .ensures) (omega arith),
+          (nodeIs (n .node-at .result)) (n .node-at .ensures) (omega arith),
     )
 
 same-length-2 : tie.Need-same-length-2
@@ -65,7 +66,7 @@ returns-2 c =
     let a = start n .args in
     let p = start n .pre in
     left-by-next (a .states .now) (a .nodes .now) (a .track .now) (a .k) (a .m) (a .n) (a .scratch .now) (p .0) (p .1) (p .2)
-    (n .node-at .result) (n .node-at .ensures) _ (omega arith) (c .before .before .add-next .ensures)
+    (nodeIs (n .node-at .result)) (n .node-at .ensures) _ (omega arith) (c .before .before .add-next .ensures)
 
 loop-seed-requires : tie.Need-loop-seed-requires
 loop-seed-requires c κs =
@@ -88,7 +89,7 @@ returns-3 c =
     let a = start n .args in
     let p = start n .pre in
     left-by-passes (a .states .now) (a .nodes .now) (a .track .now) (a .k) (a .m) (a .n) (a .scratch .now) (p .0) (p .1) (p .2)
-    (n .node-at .result) (n .node-at .ensures) _ (omega arith) _ (c .before .before .before .before .loop-seed .ensures .0)
+    (nodeIs (n .node-at .result)) (n .node-at .ensures) _ (omega arith) _ (c .before .before .before .before .loop-seed .ensures .0)
     (c .before .before .add-lasting .ensures)
 
 pub add-node-spec : {M : Type 1} → statement M

@@ -7,8 +7,8 @@ use Rattle.bits.specs.Bits.{bit}
 use Rattle.meaning.specs.Laws.{plain}
 use Rattle.reading.specs.Parts.{labelOf}
 use Rattle.judge.specs.declared.truths.Node.{Node}
-use Rattle.judge.specs.Inner.{at, added, labelsOf, Stored}
-use Rattle.judge.proofs.Stores.{stored-none, stored-up}
+use Rattle.scratch.proofs.Scratch.{at, added, labelsOf, Stored}
+use Rattle.scratch.proofs.Stores.{stored-none, stored-up}
 use Rattle.judge.proofs.truths.add_plain.Statement.{statement}
 use Rattle.judge.proofs.truths.add_plain.Tie as tie
 

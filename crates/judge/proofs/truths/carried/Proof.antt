@@ -5,7 +5,7 @@ use lib.Dec.{eqb}
 use borrow.Author.Needs.{needs}
 use Rattle.bits.specs.Bits.{bit}
 use Rattle.meaning.specs.Laws.{now, stay}
-use Rattle.judge.proofs.Bits.{small-digit, word-of-two, step-digit}
+use Rattle.scratch.proofs.Bits.{small-digit, word-of-two, step-digit}
 use Rattle.judge.proofs.truths.carried.Statement.{statement}
 use Rattle.judge.proofs.truths.carried.Tie as tie
 

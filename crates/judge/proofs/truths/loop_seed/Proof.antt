@@ -5,10 +5,11 @@ use mathlib.Core.Path.{_≡_, ap, _∙_}
 use native.Mathlib.Omega.{arith}
 use Rattle.bits.proofs.Bit.{digit}
 use Rattle.meaning.specs.Laws.{greatest}
-use Rattle.rule.proofs.Words.{word-of-one}
+use Rattle.bits.proofs.Word.{word-of-one}
 use Rattle.rule.proofs.Passes.{pass, seed}
-use Rattle.judge.specs.Inner.{nowIn, stayIn}
-use Rattle.judge.proofs.Bits.{small-digit, pass-digit}
+use Rattle.judge.specs.Node.{nodeIs}
+use Rattle.scratch.proofs.Scratch.{nowIn, stayIn}
+use Rattle.scratch.proofs.Bits.{small-digit, pass-digit}
 use Rattle.judge.proofs.truths.loop_seed.Statement.{statement}
 use Rattle.judge.proofs.truths.loop_seed.Tie as tie
 
@@ -18,7 +19,7 @@ Inv-loop node k m scratch next₀ i₀ next i =
     × (i ≤ k + m)
     × (next ≤ 1)
     × (next
-    ≡ digit (pass (nowIn node scratch) (stayIn node scratch) (greatest (node .operator)) i (k + m - i)))
+    ≡ digit (pass (nowIn (nodeIs node) scratch) (stayIn (nodeIs node) scratch) (greatest (node .operator)) i (k + m - i)))
 
 abbrev μ-loop : tie.MeasureT-loop
 μ-loop node k m scratch next₀ i₀ next i = i
@@ -56,7 +57,7 @@ loop-again : tie.Need-loop-again Inv-loop μ-loop
 loop-again c =
     let a = c .before .before .before .before .before .before .args in
     let at-loop = c .before .before .before .loop in
-    (omega arith, omega arith, c .carried .ensures .1, pass-digit (nowIn (a .node) (a .scratch .now)) (stayIn (a .node) (a .scratch .now)) (greatest (a .node .operator)) (a .k + a .m) (at-loop .i) (at-loop .next) _ (at-loop .inv .3) (c .carried .ensures .0) (omega arith) (omega arith))
+    (omega arith, omega arith, c .carried .ensures .1, pass-digit (nowIn (nodeIs (a .node)) (a .scratch .now)) (stayIn (nodeIs (a .node)) (a .scratch .now)) (greatest (a .node .operator)) (a .k + a .m) (at-loop .i) (at-loop .next) _ (at-loop .inv .3) (c .carried .ensures .0) (omega arith) (omega arith))
 
 returns : tie.Need-returns Inv-loop μ-loop
 unfolding seed
@@ -64,7 +65,7 @@ returns c =
     let a = c .before .before .before .before .args in
     let at-k : c .before .loop .i ≡ a .k = omega arith in
     let all : a .k + a .m - a .k ≡ a .m = omega arith in
-    let carried = pass (nowIn (a .node) (a .scratch .now)) (stayIn (a .node) (a .scratch .now)) (greatest (a .node .operator)) in (
+    let carried = pass (nowIn (nodeIs (a .node)) (a .scratch .now)) (stayIn (nodeIs (a .node)) (a .scratch .now)) (greatest (a .node .operator)) in (
       c .before .loop .inv .3
           ∙ (ap (λ (i : ℕ). digit (carried i (a .k + a .m - i))) at-k ∙ ap (λ (d : ℕ). digit (carried (a .k) d)) all),
       c .before .loop .inv .2,

@@ -8,8 +8,8 @@ use borrow.Author.Needs.{needs}
 use Rattle.bits.specs.Bits.{bit}
 use Rattle.bits.proofs.Bit.{digit, eqb-digit}
 use Rattle.meaning.specs.Laws.{plain}
-use Rattle.judge.specs.Inner.{added}
-use Rattle.judge.proofs.Bits.{small-digit, word-of-three}
+use Rattle.scratch.proofs.Scratch.{added}
+use Rattle.scratch.proofs.Bits.{small-digit, word-of-three}
 use Rattle.judge.proofs.truths.plain_added.Statement.{statement}
 use Rattle.judge.proofs.truths.plain_added.Tie as tie
 

@@ -11,9 +11,9 @@ use Rattle.bits.specs.Bits.{bit}
 use Rattle.bits.proofs.Bit.{digit, eqb-digit}
 use Rattle.rule.proofs.Entries.{entries}
 use Rattle.reading.specs.Parts.{nodeOf, nodeCount}
-use Rattle.judge.specs.Inner.{at, labelsOf, Stored}
-use Rattle.judge.proofs.Cleared.{cleared-zero, cleared-length, cleared-again}
-use Rattle.judge.proofs.Telling.{telling-kept}
+use Rattle.scratch.proofs.Scratch.{at, labelsOf, Stored}
+use Rattle.scratch.proofs.Cleared.{cleared-zero, cleared-length, cleared-again}
+use Rattle.scratch.proofs.Telling.{telling-kept}
 use Rattle.judge.proofs.truths.rule_holds.Statement.{statement}
 use Rattle.judge.proofs.truths.rule_holds.Tie as tie
 

@@ -3,7 +3,7 @@ use native.Mathlib.Omega.{arith}
 use borrow.Author.Needs.{needs}
 use Rattle.bits.proofs.Bit.{test-bit}
 use Rattle.bits.specs.Bits.{bit}
-use Rattle.judge.proofs.Bits.{digit-small, small-digit}
+use Rattle.scratch.proofs.Bits.{digit-small, small-digit}
 use Rattle.judge.proofs.truths.truth.Statement.{statement}
 use Rattle.judge.proofs.truths.truth.Tie as tie
 

@@ -3,7 +3,7 @@ use mathlib.Core.Path.{ap}
 use Prim.Native.Nat.{ℕ, _+_}
 use lib.Dec.{eqb}
 use borrow.Author.Needs.{needs}
-use Rattle.judge.proofs.Bits.{shifted-bit, added-fits}
+use Rattle.scratch.proofs.Bits.{shifted-bit, added-fits}
 use Rattle.judge.proofs.truths.with_bit.Statement.{statement}
 use Rattle.judge.proofs.truths.with_bit.Tie as tie
 

@@ -10,10 +10,10 @@ use lib.Pow.{pow-lt, pow-mono}
 use Rattle.bits.specs.Bits.{bit}
 use Rattle.bits.proofs.Bit.{digit, digit-eqb, eqb-digit, bit-lowest}
 use Rattle.bits.proofs.Number.{added-below}
-use Rattle.rule.specs.Word.{Word}
-use Rattle.rule.proofs.Words.{word-of-one}
+use Rattle.bits.proofs.Word.{Word}
+use Rattle.bits.proofs.Word.{word-of-one}
 use Rattle.rule.proofs.Passes.{pass, pass-turn}
-use Rattle.judge.specs.Inner.{width, added}
+use Rattle.scratch.proofs.Scratch.{width, added}
 
 pub shifted-bit : (bit n : ℕ) → bit ≤ 1 → n < width → (bit * 2 ^ n) % 2 ^ width ≡ cond (eqb bit 1) (2 ^ n) 0
 shifted-bit zero n h l = rw zero-mul

@@ -1,4 +1,4 @@
--- Words of truth values: what `Word` gives, bit by bit, and how the machine's `&`, `|` and `ones - x` make words of words.
+-- Words of truth values, several at once, a bit for each: what `Word` gives, bit by bit, and how the machine's `&`, `|` and `ones - x` make words of words.
 -- Assumes nothing.
 use Prim.Native.Nat.{ℕ, _-_, _^_, _≤_, _<_}
 use mathlib.Core.Path.{_≡_, refl, ap₂, _∙_}
@@ -7,11 +7,14 @@ use native.Mathlib.Nat.{zero-add}
 use native.Mathlib.Omega.{arith}
 use lib.Bits.{bitAnd, bitOr, and-lt, or-lt}
 use lib.Pow.{pow-pos}
 use Rattle.bits.specs.Bits.{bit, number}
 use Rattle.bits.proofs.Bit.{digit, bit-of-zero}
 use Rattle.bits.proofs.Number.{number-below, bit-number, number-by-bits}
 use Rattle.bits.proofs.Words.{bit-and, bit-or, bit-complement, bit-ones}
-use Rattle.rule.specs.Word.{Word}
+
+-- the word r has the truth values f: where `ones` is the word of w ones, r is the number of w bits whose bit j is f j
+pub record Word (ones : ℕ) (f : ℕ → Bool) (r : ℕ) : Type 0 where
+  pub made : (w : ℕ) → ones ≡ 2 ^ w - 1 → r ≡ number f w
 
 module _ {ones r : ℕ} {f : ℕ → Bool} (word : Word ones f r) (w : ℕ) (full : ones ≡ 2 ^ w - 1) where
   pub word-below : r < 2 ^ w

@@ -8,15 +8,14 @@ use lib.Dec.{eqb}
 use lib.ListN.{length}
 use Rattle.bits.specs.Bits.{bit}
 use Rattle.bits.proofs.Bit.{digit, eqb-digit}
-use Rattle.meaning.specs.Table as Table
+use Rattle.meaning.specs.Table.{Node}
 use Rattle.meaning.specs.Laws.{plain, greatest, operands}
 use Rattle.meaning.specs.Runs.{position}
 use Rattle.rule.proofs.Passes.{pass, seed}
 use Rattle.rule.proofs.Entries.{nowAt, stayAt, entries, entries-below}
 use Rattle.reading.specs.Parts.{nodeOf, nodeCount}
-use Rattle.judge.specs.declared.truths.Node.{Node}
-use Rattle.judge.specs.Inner.{nodeIs, nowIn, stayIn, at, added, labelsOf, Stored, Adding, Known, Telling, Valued}
-use Rattle.judge.proofs.Added.{plain-entry, next-entry, lasting-entry}
+use Rattle.scratch.proofs.Scratch.{nowIn, stayIn, at, added, labelsOf, Stored, Adding, Known, Telling, Valued}
+use Rattle.scratch.proofs.Added.{plain-entry, next-entry, lasting-entry}
 
 -- the same entries, by another name
 pub stored-same : {lo hi : ℕ} {f : ℕ → ℕ} {before after : List ℕ} (g : ℕ → ℕ) → Stored lo hi f before after
@@ -40,7 +39,7 @@ telling-kept e t =
 
 module _ (states nodes track : List ℕ) (k m n : ℕ) (scratch : List ℕ) (t : Telling states nodes track k m scratch)
     (h : n < nodeCount nodes) (v : Valued states nodes track k m n scratch) where
-  abbrev node : ℕ → Table.Node
+  abbrev node : ℕ → Node
   node = nodeOf nodes
 
   abbrev labels : ℕ → ℕ
@@ -54,23 +53,23 @@ module _ (states nodes track : List ℕ) (k m n : ℕ) (scratch : List ℕ) (t :
         room = t .room;
       }
 
-  module _ (x : Node) (e : nodeIs x ≡ nodeOf nodes n) where
+  module _ (x : Node) (e : x ≡ nodeOf nodes n) where
     operator-is : x .operator ≡ node n .operator
-    operator-is = ap (λ (y : Table.Node). y .operator) e
+    operator-is = ap (λ (y : Node). y .operator) e
 
     pub known-node : Known x
     known-node =
         record {
           known = rw operator-is (t .ordered .known n h);
-          first-narrow = rw (ap (λ (y : Table.Node). y .first) e) (t .first-narrow n h);
-          second-narrow = rw (ap (λ (y : Table.Node). y .second) e) (t .second-narrow n h);
+          first-narrow = rw (ap (λ (y : Node). y .first) e) (t .first-narrow n h);
+          second-narrow = rw (ap (λ (y : Node). y .second) e) (t .second-narrow n h);
         }
 
     -- an operand of X is a lower node
     pub next-lower : x .operator ≡ 6 → x .first < n
     next-lower six =
         let one : 1 ≤ operands (node n .operator) = rw (sym operator-is ∙ six) (omega arith) in
-        rw (ap (λ (y : Table.Node). y .first) e) (t .ordered .first-lower n h one)
+        rw (ap (λ (y : Node). y .first) e) (t .ordered .first-lower n h one)
 
     module _ (after : List ℕ) where
       abbrev Left : (ℕ → ℕ) → Type 0
@@ -82,7 +81,7 @@ module _ (states nodes track : List ℕ) (k m n : ℕ) (scratch : List ℕ) (t :
       left-by-plain p s =
           stored-same (entries node labels k m (suc n))
           (subst
-          (λ (y : Table.Node).
+          (λ (y : Node).
           Left (λ i. added (at scratch i) n (plain (y .operator) (bit (labels i) (y .first)) (bit (at scratch i) (y .first)) (bit (at scratch i) (y .second)))))
           e s)
           (plain-entry node labels k m n (t .loops) (at scratch) v (omega (arith, operator-is)))
@@ -92,7 +91,7 @@ module _ (states nodes track : List ℕ) (k m n : ℕ) (scratch : List ℕ) (t :
           → Left (entries node labels k m (suc n))
       left-by-next p s =
           stored-same (entries node labels k m (suc n))
-          (subst (λ (y : Table.Node). Left (λ i. added (at scratch i) n (bit (at scratch (position k m (suc i))) (y .first)))) e s)
+          (subst (λ (y : Node). Left (λ i. added (at scratch i) n (bit (at scratch (position k m (suc i))) (y .first)))) e s)
           (next-entry node labels k m n (t .loops) (at scratch) v (sym operator-is ∙ p))
 
       pub left-by-passes : 7 ≤ x .operator → (w : ℕ)
@@ -102,10 +101,10 @@ module _ (states nodes track : List ℕ) (k m n : ℕ) (scratch : List ℕ) (t :
       left-by-passes p w d s =
           stored-same (entries node labels k m (suc n))
           (subst
-          (λ (y : Table.Node).
+          (λ (y : Node).
           Left (λ i. added (at scratch i) n (pass (nowAt y (at scratch)) (stayAt y (at scratch)) (eqb w 1) i (k + m - i))))
           e s)
           (lasting-entry node labels k m n (t .loops) (at scratch) v (omega (arith, operator-is)) (eqb w 1)
           (ap (λ (z : ℕ). eqb z 1) d
           ∙ (eqb-digit (seed (nowIn x scratch) (stayIn x scratch) (greatest (x .operator)) k m)
-          ∙ ap (λ (y : Table.Node). seed (nowAt y (at scratch)) (stayAt y (at scratch)) (greatest (y .operator)) k m) e)))
+          ∙ ap (λ (y : Node). seed (nowAt y (at scratch)) (stayAt y (at scratch)) (greatest (y .operator)) k m) e)))

@@ -1,22 +1,17 @@
--- What the judge's inner functions ask and leave. No promise rests on these; they stand here because contracts cite them.
+-- What the judge's scratch holds: what its inner functions ask and leave. Assumes nothing.
 use Prim.Native.Nat.{ℕ, _+_, _*_, _/_, _^_, _≤_, _<_}
 use mathlib.Core.Path.{_≡_}
 use mathlib.Core.Bool.{Bool, cond}
 use mathlib.Core.List.{List}
 use lib.ListN.{length, getD}
-use Rattle.meaning.specs.Table as Table
+use Rattle.meaning.specs.Table.{Table, Node}
 use Rattle.meaning.specs.Laws.{Ordered}
 use Rattle.rule.proofs.Entries.{nowAt, stayAt, entries}
 use Rattle.reading.specs.Parts.{labelOf, initialOf, hasEdge, nodeOf, nodeCount}
-use Rattle.judge.specs.declared.truths.Node.{Node}
 
 -- how many bits an entry of the scratch has, and how many nodes a rule may have
 abbrev pub width : ℕ
 width = 32
-
--- a node as the code holds it, and as the paper has it
-abbrev pub nodeIs : Node → Table.Node
-nodeIs x = record { operator = x .operator; first = x .first; second = x .second }
 
 -- the entries of a list
 abbrev pub at : List ℕ → ℕ → ℕ
@@ -24,13 +19,13 @@ at l i = getD l i 0
 
 -- `now` and `stay` of a node at each entry of a list of values
 abbrev pub nowIn : Node → List ℕ → ℕ → Bool
-nowIn x l = nowAt (nodeIs x) (at l)
+nowIn x l = nowAt x (at l)
 
 abbrev pub stayIn : Node → List ℕ → ℕ → Bool
-stayIn x l = stayAt (nodeIs x) (at l)
+stayIn x l = stayAt x (at l)
 
 -- the states, the initial states and the edges of a table, from its lists
-abbrev pub tableFrom : List ℕ → List ℕ → Table.Table
+abbrev pub tableFrom : List ℕ → List ℕ → Table
 tableFrom states edges =
     record {
       states = length states / 3;

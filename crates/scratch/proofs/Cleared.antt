@@ -6,7 +6,7 @@ use mathlib.Core.List.{List, _++_}
 use native.Mathlib.Omega.{arith}
 use lib.ListN.{length, getD, drop, replicate, length-append, length-drop, length-replicate, getD-replicate, List·getD-append}
 use lib.Seq.{ext-getD, getD-drop, getD-append-add}
-use Rattle.judge.specs.Inner.{at, Stored}
+use Rattle.scratch.proofs.Scratch.{at, Stored}
 
 abbrev pub cleared : ℕ → List ℕ → List ℕ
 cleared c l = replicate c 0 ++ drop c l

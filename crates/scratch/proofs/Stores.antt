@@ -9,7 +9,7 @@ use lib.ListN.{length, set, length-set}
 use lib.Seq.{getD-set-same, getD-set-other}
 use Rattle.bits.specs.Bits.{bit}
 use Rattle.bits.proofs.Number.{bit-added-below}
-use Rattle.judge.specs.Inner.{at, added, Stored}
+use Rattle.scratch.proofs.Scratch.{at, added, Stored}
 
 pub stored-none : (i : ℕ) (f : ℕ → ℕ) (l : List ℕ) → Stored i i f l l
 stored-none i f l = record { stored = λ j h k. absurd (omega arith); under = λ j h. refl; over = λ j h. refl; size = refl }

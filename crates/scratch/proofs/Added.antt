@@ -9,11 +9,11 @@ use Rattle.bits.specs.Bits.{bit}
 use Rattle.meaning.specs.Table.{Node}
 use Rattle.meaning.specs.Laws.{plain, now, stay, greatest}
 use Rattle.meaning.specs.Runs.{position}
-use Rattle.rule.specs.Value.{truth}
+use Rattle.rule.proofs.Values.{truth}
 use Rattle.meaning.proofs.Positions.{position-below}
 use Rattle.rule.proofs.Passes.{pass, pass-same, seed, lasting}
 use Rattle.rule.proofs.Entries.{nowAt, stayAt, ahead, entries}
-use Rattle.judge.specs.Inner.{added}
+use Rattle.scratch.proofs.Scratch.{added}
 
 module _ (node : ℕ → Node) (labels : ℕ → ℕ) (k m n : ℕ) (loop : 1 ≤ m) (l : ℕ → ℕ)
     (valued : (i : ℕ) → i < k + m → l i ≡ entries node labels k m n i) where

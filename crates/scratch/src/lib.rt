@@ -1,0 +1,1 @@
+// What the judge's scratch holds: theory only, no code.
