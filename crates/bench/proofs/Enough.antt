@@ -3,18 +3,17 @@
 use Prim.Native.Nat.{ℕ, _+_, _*_, _≤_, _<_}
 use mathlib.Core.Bool.{not}
 use mathlib.Core.List.{List}
-use mathlib.Core.Path.{_≡_, refl, sym, ap, ap₂, _∙_}
+use mathlib.Core.Path.{_≡_, refl, ap, ap₂}
 use native.Mathlib.Decide.{decLe}
 use native.Mathlib.Omega.{arith}
-use lib.Dec.{ltb, eqb}
-use lib.ListN.{length, getD, take, length-take}
+use lib.Dec.{eqb}
+use lib.ListN.{length, getD, take}
 use lib.Seq.{take-all, getD-take, length-take-le}
 use borrow.Author.Tests.{lt-ltb, le-ltb, not-false}
-use Rattle.reading.specs.Parts.{Parts}
 use Rattle.reading.specs.Refusals.{_then_, refuseIf, lengthAt, at02, at03, at04, inSteps, partsOf, fieldRefusal, outOfRange, lastRefusal, fieldsRefusal, partsRefusal, refusal}
 use Rattle.reading.specs.declared.CaseRefusal.the-variants.{Tag, Length, Range}
 use Rattle.reading.specs.declared.Check.{Check}
-use Rattle.reading.proofs.Fields.{refused-not-passed, not-refused, in-steps, in-range, InRange, InSteps, Field, Fields, field-passed, fields-passed}
+use Rattle.reading.proofs.Fields.{not-refused, in-steps, in-range, InRange, InSteps, Fields, field-passed, fields-passed}
 use Rattle.reading.proofs.Known.{passed-fields}
 use Rattle.bench.specs.Told.{Says, Told}
 

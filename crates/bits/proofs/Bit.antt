@@ -1,14 +1,14 @@
 -- Bit j of a number, of its halves, of a shifted number and of a remainder. Every law goes back to the digit n / 2 ^ j % 2, which
 -- is 1 where the bit is true and 0 where it is false. Assumes nothing.
-use Prim.Native.Nat.{ℕ, zero, suc, _+_, _-_, _*_, _/_, _%_, _^_, _≤_, _<_}
+use Prim.Native.Nat.{ℕ, zero, suc, _+_, _-_, _/_, _%_, _^_, _≤_, _<_}
 use mathlib.Core.Path.{_≡_, refl, sym, ap, _∙_}
 use mathlib.Core.Bool.{Bool, true, false, cond}
-use native.Mathlib.Nat.{zero-div, div-one, div-eq-of-lt, mul-mod-left, lt-of-lt-of-le, le-div-iff-mul-le, pow-suc}
+use native.Mathlib.Nat.{zero-div, div-one, div-eq-of-lt, lt-of-lt-of-le, pow-suc}
 use native.Mathlib.Numerals.{one-add}
 use native.Mathlib.Omega.{arith}
 use lib.Dec.{eqb, eqb·zero-suc, eqb·suc-zero, eqb·suc-suc}
 use lib.Bits.{bitAnd, and-mask}
-use lib.Pow.{pow-pos, pow-mono, shr-shr, shl-shr, field, mod-mod-pow}
+use lib.Pow.{pow-mono, shr-shr, field, mod-mod-pow}
 use Rattle.bits.specs.Bits.{bit}
 
 -- ---- digits
@@ -34,17 +34,8 @@ pub bit-digit : (n j : ℕ) (b : Bool) → n / 2 ^ j % 2 ≡ digit b → bit n j
 unfolding bit
 bit-digit n j b e = rw e (eqb-digit b)
 
-pub bit-true : (n j : ℕ) → n / 2 ^ j % 2 ≡ 1 → bit n j ≡ true
-bit-true n j e = bit-digit n j true e
-
 pub bit-false : (n j : ℕ) → n / 2 ^ j % 2 ≡ 0 → bit n j ≡ false
 bit-false n j e = bit-digit n j false e
-
-pub bit-true-digit : (n j : ℕ) → bit n j ≡ true → n / 2 ^ j % 2 ≡ 1
-bit-true-digit n j e = digit-bit n j ∙ ap digit e
-
-pub bit-false-digit : (n j : ℕ) → bit n j ≡ false → n / 2 ^ j % 2 ≡ 0
-bit-false-digit n j e = digit-bit n j ∙ ap digit e
 
 -- (n >> j) & 1, as the machine tests a bit
 pub test-bit : (n j : ℕ) → bitAnd (n / 2 ^ j) 1 ≡ digit (bit n j)
@@ -71,12 +62,6 @@ bit-suc n j = ap (λ (x : ℕ). bit n x) (sym (one-add j)) ∙ sym (bit-shr n 1 
 pub bit-high : (n w j : ℕ) → n < 2 ^ w → w ≤ j → bit n j ≡ false
 bit-high n w j h l = bit-false n j (rw (div-eq-of-lt (lt-of-lt-of-le h (pow-mono l))))
 
-pub bit-true-le : (n j : ℕ) → bit n j ≡ true → 2 ^ j ≤ n
-bit-true-le n j e = omega (arith, le-div-iff-mul-le (pow-pos j) .0 (one-le (bit-true-digit n j e)))
-  where
-    one-le : {d : ℕ} → d % 2 ≡ 1 → 1 ≤ d
-    one-le h = omega arith
-
 -- % 2 ^ w keeps the bits below w
 bit-mod-above : (n d j : ℕ) → bit (n % 2 ^ (d + 1 + j)) j ≡ bit n j
 unfolding bit
@@ -86,13 +71,6 @@ pub bit-mod : (n w j : ℕ) → j < w → bit (n % 2 ^ w) j ≡ bit n j
 bit-mod n w j h =
     let above : w ≡ (w - suc j) + 1 + j = omega arith in
     ap (λ (x : ℕ). bit (n % 2 ^ x) j) above ∙ bit-mod-above n (w - suc j) j
-
--- bit j of a << k
-pub bit-shl : (a k j : ℕ) → bit (a * 2 ^ k) (k + j) ≡ bit a j
-bit-shl a k j = rw (← bit-shr, shl-shr)
-
-pub bit-shl-low : (a k j : ℕ) → j < k → bit (a * 2 ^ k) j ≡ false
-bit-shl-low a k j h = sym (bit-mod (a * 2 ^ k) k j h) ∙ rw mul-mod-left (bit-of-zero j)
 
 -- 2 ^ k is the number that has bit k alone
 pub bit-power : (k j : ℕ) → bit (2 ^ k) j ≡ eqb j k

@@ -66,7 +66,3 @@ number-by-bits w n f h e = equal-by-bits w n (number f w) h (number-below f w) (
 
 pub number-of-its-bits : (w n : ℕ) → n < 2 ^ w → number (bit n) w ≡ n
 number-of-its-bits w n h = sym (number-by-bits w n (bit n) h (λ j l. refl))
-
-pub number-of-equal-bits : (w : ℕ) (f g : ℕ → Bool) → ((j : ℕ) → j < w → f j ≡ g j) → number f w ≡ number g w
-number-of-equal-bits w f g e =
-    number-by-bits w (number f w) g (number-below f w) (λ j l. bit-number f w j l ∙ e j l)

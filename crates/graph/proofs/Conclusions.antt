@@ -12,7 +12,6 @@ use lib.ListN.{length, drop, List·getD-append}
 use lib.Seq.{getD-append-add, getD-drop}
 use Rattle.graph.proofs.Graph.{_!_, Graph, Step, Reaches, here, step, Recurs, Lasso}
 use Rattle.graph.proofs.Machine.{white, cyan, red, Finished, Finds, On, Outer, Inner}
-use Rattle.graph.proofs.Paths.{lasso-recurs}
 use Rattle.graph.proofs.Stacks.{finds-step}
 use Rattle.graph.proofs.Measures.{length-track}
 use Rattle.graph.proofs.Pigeonhole.{recurs}
@@ -38,23 +37,7 @@ module _ {g : Graph} {r : ℕ} {colour : List ℕ} (o : Outer g r colour [] []) 
       → ((i : ℕ) → (j : ℕ) × (i ≤ j) × T (g .marked (f j))) → ⊥
   nothing-endless through f initial inside steps again = nothing-found through (f 0) (inside 0) initial (recurs f inside steps again)
 
-  pub no-lasso : g .P ≤ r → {track : List ℕ} {k m : ℕ} → Lasso g track k m → ⊥
-  no-lasso through {track} l = nothing-found through (track ! 0) (l .places 0 (omega (arith, l .loops))) (l .begins) (lasso-recurs l)
-
 -- ---- found
-
--- a lasso is its first k + m entries
-pub lasso-same : {g : Graph} {track : List ℕ} {k m : ℕ} → Lasso g track k m → (other : List ℕ) → k + m ≤ length other
-    → ((i : ℕ) → i < k + m → other ! i ≡ track ! i) → Lasso g other k m
-lasso-same {g} {track} {k} {m} l other stored same = record {
-  loops = l .loops;
-  stored = stored;
-  places = λ i h. omega (arith, same i h, l .places i h);
-  begins = rw (same 0 (omega (arith, l .loops))) (l .begins);
-  steps = λ i h. rw (same i (omega arith), same (suc i) h) (l .steps i h);
-  closes = rw (same (k + m - 1) (omega (arith, l .loops)), same k (omega (arith, l .loops))) (l .closes);
-  marks = (l .marks .0, l .marks .1, l .marks .2, rw (same (l .marks .0) (l .marks .2)) (l .marks .3));
-}
 
 module _ {g : Graph} {r w d e : ℕ} {colour outer cursors inner innerCursors : List ℕ} (n : Inner g r w d colour outer cursors inner innerCursors) (deep : length inner ≡ suc e) where
   -- entry i of the track is the outer stack's up to its top, which is the inner stack's first

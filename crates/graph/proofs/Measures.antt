@@ -5,11 +5,11 @@ use native.Mathlib.Nat.{mul-suc}
 use native.Mathlib.Omega.{arith}
 use mathlib.Core.Path.{_≡_, sym, ap, _∙_}
 use mathlib.Core.Logic.{_≢_}
-use mathlib.Core.List.{List, [], _∷_, _++_}
+use mathlib.Core.List.{List, _++_}
 use lib.ListN.{length, set, take, drop, length-set, length-append, length-drop}
 use lib.Seq.{getD-set-other}
 use Rattle.graph.proofs.Graph.{_!_, Graph}
-use Rattle.graph.proofs.Machine.{onward, white, blue, cyan, red, Finds, Search, Outer, Inner, below, total, measure}
+use Rattle.graph.proofs.Machine.{onward, white, blue, cyan, red, Finds, Search, Outer, Inner, below, measure}
 use Rattle.graph.proofs.Lists.{total-push, total-set, total-pop, below-falls, below-stays, below-some}
 use Rattle.graph.proofs.Stacks.{finds-inside, top-inside}
 
@@ -29,14 +29,6 @@ module _ (g : Graph) where
   pop-falls cursors d n deep within = omega (arith, total-pop left cursors d deep)
 
 -- ---- the outer search
-
-pub root-falls : {g : Graph} {r : ℕ} {colour : List ℕ} → Outer g r colour [] [] → r < g .P → colour ! r ≡ white
-    → measure g (0 ∷ []) (below blue (set colour r cyan)) < measure g [] (below blue colour)
-unfolding total
-root-falls {g} {r} {colour} o inside was =
-    let count : suc (below blue (set colour r cyan)) ≡ below blue colour =
-    below-falls blue colour r cyan (omega (arith, o .search .sized)) (omega arith) (omega arith) in
-    rw (← count) (omega (arith, mul-suc (g .D + 2) (below blue (set colour r cyan))))
 
 module _ {g : Graph} {r : ℕ} {colour outer cursors : List ℕ} (o : Outer g r colour outer cursors) {d : ℕ} (deep : length outer ≡ suc d) where
   pub advance-falls : {c y : ℕ} → Finds g blue colour (outer ! d) (cursors ! d) c y

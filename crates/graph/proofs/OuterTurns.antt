@@ -8,7 +8,7 @@ use mathlib.Core.Path.{_≡_, refl, sym, _∙_, subst}
 use mathlib.Core.Logic.{_≢_}
 use mathlib.Core.List.{List, [], _∷_}
 use lib.Dec.{T}
-use lib.ListN.{length, set, take, length-set, replicate, length-replicate}
+use lib.ListN.{length, set, take, length-set}
 use lib.Seq.{getD-set-same}
 use Rattle.graph.proofs.Graph.{_!_, Graph, Step, Leads}
 use Rattle.graph.proofs.Machine.{push, onward, white, blue, cyan, red, Skips, Finds, Stack, Search, Outer}
@@ -90,9 +90,6 @@ start {g} {colour} sized blank = record {
   closed = λ x y h. absurd (omega (arith, blank x));
 }
 
-pub start-blank : (g : Graph) → Outer g 0 (replicate (g .P) 0) [] []
-start-blank g = start (length-replicate (g .P) 0) (blank (g .P))
-
 module _ {g : Graph} {r : ℕ} {colour outer cursors : List ℕ} (o : Outer g r colour outer cursors) where
   -- the root loop passes r, which is not initial or not white
   pub pass : (T (g .initial r) → white < colour ! r) → Outer g (r + 1) colour outer cursors
@@ -136,12 +133,6 @@ module _ {g : Graph} {r : ℕ} {colour outer cursors : List ℕ} (o : Outer g r 
         (omega (arith, o .search .on-stack .cyans d (omega arith)))
         (omega arith);
   }
-
--- a stack of length 0 is the empty one
-pub emptied : {g : Graph} {r : ℕ} {colour outer cursors : List ℕ} → Outer g r colour outer cursors → length outer ≡ 0 → Outer g r colour [] []
-emptied {outer = []} {cursors = []} o e = o
-emptied {outer = []} {cursors = c ∷ l} o e = absurd (omega (arith, o .search .stack .paired))
-emptied {outer = x ∷ l} o e = absurd (omega arith)
 
 -- an initial white place is pushed on the empty stack, and the root loop has passed it
 pub root : {g : Graph} {r : ℕ} {colour : List ℕ} → Outer g r colour [] [] → r < g .P → T (g .initial r) → colour ! r ≡ white

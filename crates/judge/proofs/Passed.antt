@@ -8,16 +8,16 @@ use mathlib.Core.List.{List}
 use native.Mathlib.Omega.{arith}
 use lib.Dec.{T, ltb, eqb}
 use lib.ListN.{length, getD}
-use borrow.Author.Tests.{leb-false, ltb-false, eqb-false, not-false}
+use borrow.Author.Tests.{leb-false, ltb-false, eqb-false, not-false, le-ltb, lt-leb, ne-eqb}
 use Rattle.meaning.specs.Table.{Table}
 use Rattle.meaning.specs.Laws.{operands}
 use Rattle.meaning.specs.Runs.{position, Run}
-use Rattle.meaning.proofs.Truths.{T-along}
+use Rattle.meaning.proofs.Truths.{T-along, T-is-true}
 use Rattle.meaning.proofs.Loops.{position-in}
 use Rattle.meaning.proofs.Positions.{position-closes}
 use Rattle.reading.specs.Parts.{Parts, nodeOf, nodeCount}
 use Rattle.reading.specs.Lowest.{any}
-use Rattle.reading.proofs.Lowest.{any-false}
+use Rattle.reading.proofs.Lowest.{any-false, any-none}
 use Rattle.reading.proofs.Admitted.{Admitted}
 use Rattle.judge.specs.declared.RunRefusal.{RunRefusal}
 use Rattle.judge.specs.declared.RunCheck.{RunCheck}
@@ -96,6 +96,30 @@ module _ {t : Table} {track : List ℕ} {k m room : ℕ} (f : Free t track k m r
 
   pub free-room : k + m ≤ room
   free-room = ltb-false room (k + m) (f .room-enough)
+
+-- rows 50 to 54 and 40 pass a run of the table that the scratch has room for
+pub run-passes : (t : Table) (track : List ℕ) (k m room : ℕ) → Run t track k m → k + m ≤ room → runRefusal t track k m room ≡ RunCheck.Passed
+unfolding runRefusal storedRefusal
+run-passes t track k m room r h =
+    rw (ne-eqb m 0 some, le-ltb (length track) (k + m) (r .stored), inside, T-is-true (t .initial (getD track 0 0)) (r .begins), stepping, le-ltb room (k + m) h)
+  where
+    some : m ≡ 0 → ⊥
+    some e = omega (arith, r .loops)
+
+    inside : any (outside t track) (k + m) ≡ false
+    inside = any-none (outside t track) (k + m) (λ j l. lt-leb (t .states) (getD track j 0) (r .states j l))
+
+    edge : (i : ℕ) → i < k + m → Dec (suc i < k + m) → T (t .edge (getD track i 0) (getD track (position k m (suc i)) 0))
+    edge i l (yes c) = subst (λ (p : ℕ). T (t .edge (getD track i 0) (getD track p 0))) (sym (position-in k m (suc i) c)) (r .steps i c)
+    edge i l (no c) =
+        let last : suc i ≡ k + m = omega arith in
+        let here : k + m - 1 ≡ i = omega arith in
+        subst (λ (p : ℕ). T (t .edge (getD track i 0) (getD track p 0)))
+        (sym (ap (position k m) last ∙ position-closes k m (r .loops)))
+        (subst (λ (x : ℕ). T (t .edge (getD track x 0) (getD track k 0))) here (r .closes))
+
+    stepping : any (gap t track k m) (k + m) ≡ false
+    stepping = any-none (gap t track k m) (k + m) (λ i l. ap not (T-is-true (t .edge (getD track i 0) (getD track (position k m (suc i)) 0)) (edge i l (decLt (suc i) (k + m)))))
 
 -- ---- the nodes' bytes
 

@@ -3,17 +3,17 @@
 use Prim.Native.Nat.{ℕ, zero, suc, _+_, _≤_, _<_}
 use native.Mathlib.Omega.{arith}
 use native.Mathlib.Nat.{eq-or-lt-of-le}
-use mathlib.Core.Path.{_≡_, refl, sym, _∙_, ap, ap₂, subst}
+use mathlib.Core.Path.{_≡_, refl, sym, ap, ap₂, subst}
 use mathlib.Core.Bool.{Bool, true, false, not, _&&_, _||_}
 use mathlib.Core.Logic.{_⊎_, inl, inr, ⊎-elim, _↔_}
 use lib.Dec.{T}
 use Rattle.bits.specs.Bits.{bit}
 use Rattle.meaning.specs.Formula.{Formula, At, True, Atom, Not, And, Or, Implies, X, F, G, U, R, W}
 use Rattle.meaning.specs.Table.{formulaOf}
-use Rattle.meaning.specs.Laws.{plain, now, stay, greatest}
+use Rattle.meaning.specs.Laws.{now, stay, greatest}
 use Rattle.meaning.proofs.Truths.{T-or, T-or-l, T-or-r, T-and, and-T, T-or-not, ↔-trans}
 use Rattle.meaning.proofs.Poles.{Reached, Stays, Pole, from-next, pole-here, pole-on}
-use Rattle.meaning.proofs.Loops.{Repeats, repeats-next, window-stays, window-reaches, Near}
+use Rattle.meaning.proofs.Loops.{Repeats, repeats-next, window-stays, window-reaches}
 use Rattle.meaning.proofs.Operators.{Tells, tells-true, pole-is-at, plain-is-at}
 
 -- the pole as far as n positions show it

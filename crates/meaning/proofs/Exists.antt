@@ -9,9 +9,9 @@ use lib.Dec.{T, not-T}
 use Rattle.bits.specs.Bits.{bit}
 use Rattle.meaning.specs.Formula.{Formula, At}
 use Rattle.meaning.specs.Table.{Node, formulaOf, formula}
-use Rattle.meaning.specs.Laws.{Ordered, plain, now, stay, greatest, kept}
+use Rattle.meaning.specs.Laws.{Ordered, plain, now, stay, greatest}
 use Rattle.meaning.proofs.Truths.{T-or, T-or-l, T-or-r, T-and, and-T, T-or-not, T-ext, ↔-trans, ↔-sym}
-use Rattle.meaning.proofs.Poles.{Reached, Stays, Pole, from-next, pole-here, pole-on, unrolled}
+use Rattle.meaning.proofs.Poles.{Pole, from-next, pole-here, pole-on, unrolled}
 use Rattle.meaning.proofs.Loops.{Repeats, window-stays}
 use Rattle.meaning.proofs.Operators.{cases, formula-made, pole-of-node}
 use Rattle.meaning.proofs.Decided.{truth, truth-repeats, truth-tells}

@@ -9,7 +9,7 @@ use lib.Dec.{T}
 use lib.ListN.{length, getD}
 use Rattle.meaning.specs.Formula.{Formula}
 use Rattle.meaning.specs.Table.{Table}
-use Rattle.meaning.specs.Runs.{Run, position, pathOf, Violates}
+use Rattle.meaning.specs.Runs.{position, pathOf, Violates}
 use Rattle.meaning.proofs.Loops.{Repeats, position-in, position-loop, position-repeats, by-lower}
 use Rattle.meaning.proofs.Positions.{position-closes, position-below, position-next}
 use Rattle.meaning.proofs.Ahead.{at-ahead}

@@ -5,16 +5,15 @@ use Prim.Native.Nat.{ℕ, zero, suc, _+_, _-_, _≤_, _<_}
 use native.Mathlib.Omega.{arith}
 use native.Mathlib.Nat.{lt-trans}
 use native.Mathlib.Decide.{decLt}
-use mathlib.Core.Path.{_≡_, refl, sym, _∙_, ap, ap₂, subst}
+use mathlib.Core.Path.{_≡_, sym, subst}
 use mathlib.Core.Bool.{Bool, true, false, cond, not, _&&_, _||_}
 use mathlib.Core.Logic.{_⊎_, inl, inr, ⊎-elim, _↔_}
 use lib.Dec.{T, T-not}
-use Rattle.bits.specs.Bits.{bit}
-use Rattle.meaning.specs.Formula.{Formula, At, True}
+use Rattle.meaning.specs.Formula.{Formula, At}
 use Rattle.meaning.specs.Table.{Node, formulaOf, formula}
-use Rattle.meaning.specs.Laws.{operands, Ordered, plain, now, stay, greatest, kept}
+use Rattle.meaning.specs.Laws.{operands, Ordered, now, stay, greatest}
 use Rattle.meaning.proofs.Truths.{T-along, T-or, T-or-l, T-or-r, T-and, and-T, ↔-trans, ↔-along}
-use Rattle.meaning.proofs.Poles.{Reached, Stays, Pole, from-next, pole-here, pole-on}
+use Rattle.meaning.proofs.Poles.{Reached, Pole, from-next, pole-here, pole-on}
 use Rattle.meaning.proofs.Loops.{Repeats, by-lower, window-stays}
 use Rattle.meaning.proofs.Operators.{laws-operands, formula-made, Tells, pole-of-node, plain-of-node}
 use Rattle.meaning.proofs.Valuation.{Valuation}

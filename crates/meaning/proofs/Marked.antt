@@ -1,13 +1,12 @@
 -- The marked cases M1 to M12 of the paper, as one table under one statement: labels as stem | loop, a rule, and its truth at
 -- position 0. The path is made by the function that `Violates` uses; the table is computed by `truth`. Assumes nothing.
-use Prim.Native.Nat.{ℕ, zero, suc, _+_, _≤_, _<_}
-use mathlib.Core.Path.{_≡_, refl}
+use Prim.Native.Nat.{ℕ, _+_}
 use mathlib.Core.Bool.{Bool, true, false, cond, Bool·beq, _&&_}
 use mathlib.Core.List.{List, [], _∷_, _++_}
 use lib.ListN.{length, getD}
 use lib.Dec.{T, leb, leb→le}
 use Rattle.bits.specs.Bits.{bit}
-use Rattle.meaning.specs.Formula.{Formula, At, Atom, Not, X, F, G, U, R, W}
+use Rattle.meaning.specs.Formula.{Formula, At, Atom, X, F, G, U, R, W}
 use Rattle.meaning.specs.Runs.{position, endless}
 use Rattle.meaning.proofs.Truths.{T-and}
 use Rattle.meaning.proofs.Loops.{endless-repeats}

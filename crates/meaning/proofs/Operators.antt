@@ -1,21 +1,20 @@
 -- The operators by number: twelve cases, what a node's formula is made of, and that F, G, U, R and W are poles. Assumes nothing.
-use Prim.Native.Nat.{ℕ, zero, suc, _+_, _-_, _≤_, _<_}
+use Prim.Native.Nat.{ℕ, zero, suc, _≤_, _<_}
 use native.Mathlib.Omega.{arith}
 use native.Mathlib.Nat.{eq-or-lt-of-le}
-use native.Mathlib.Decide.{decLt}
 use mathlib.Core.Path.{_≡_, refl, sym, _∙_, ap, ap₂, subst}
-use mathlib.Core.Bool.{Bool, true, false, not, _&&_, _||_}
-use mathlib.Core.List.{List, [], _∷_, _++_}
+use mathlib.Core.Bool.{Bool, true, not, _&&_}
+use mathlib.Core.List.{[]}
 use mathlib.Core.Logic.{_⊎_, inl, inr, ⊎-elim, _↔_}
 use lib.ListN.{length, getD, length-append, List·getD-append}
 use lib.Seq.{getD-at}
 use lib.Dec.{T, T-not, not-T}
 use Rattle.bits.specs.Bits.{bit}
-use Rattle.meaning.specs.Formula.{Formula, At, True, Atom, Not, And, Or, Implies, X, F, G, U, R, W}
+use Rattle.meaning.specs.Formula.{Formula, At, True, Not, And, Or, Implies, X, F, G, U, R, W}
 use Rattle.meaning.specs.Table.{Node, formulaOf, formulas, formula}
 use Rattle.meaning.specs.Laws.{operands, Ordered, plain, now, stay, greatest}
 use Rattle.meaning.proofs.Truths.{T-and, and-T, T-or, T-or-l, T-or-r}
-use Rattle.meaning.proofs.Poles.{Reached, Stays, Pole}
+use Rattle.meaning.proofs.Poles.{Reached, Pole}
 
 -- P at each number below n, as a tuple nested to the left
 abbrev pub Each : (ℕ → Type 0) → ℕ → Type 0

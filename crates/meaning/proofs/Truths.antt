@@ -1,11 +1,16 @@
 -- Laws of tests: what it is for an or, an and, a not to be true, and when two tests are equal. Assumes nothing.
 use mathlib.Core.Path.{_≡_, refl, sym, subst}
-use mathlib.Core.Bool.{Bool, true, false, not, _&&_, _||_}
+use mathlib.Core.Bool.{Bool, true, false, _&&_, _||_}
 use mathlib.Core.Logic.{_⊎_, inl, inr, _↔_}
 use lib.Dec.{T}
 
 pub T-along : {a b : Bool} → a ≡ b → T a → T b
 T-along p t = subst T p t
+
+-- a truth value that is true is `true`
+pub T-is-true : (b : Bool) → T b → b ≡ true
+T-is-true true t = refl
+T-is-true false t = absurd t
 
 pub T-or : (a b : Bool) → T (a || b) → T a ⊎ T b
 T-or true b t = inl tt

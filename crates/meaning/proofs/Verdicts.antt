@@ -1,14 +1,13 @@
 -- What the layers above conclude: `Holds` and a violating run exclude each other, and whether a run violates is decided by its
 -- valuation. Assumes nothing.
-use Prim.Native.Nat.{ℕ, _-_, _≤_, _<_}
+use Prim.Native.Nat.{ℕ, _-_, _≤_}
 use native.Mathlib.Omega.{arith}
-use mathlib.Core.Path.{_≡_, sym, subst}
-use mathlib.Core.Bool.{Bool, true, false, not}
+use mathlib.Core.Bool.{Bool, not}
 use mathlib.Core.List.{List}
-use mathlib.Core.Logic.{_↔_, _⊎_, inl, inr, ⊎-elim}
+use mathlib.Core.Logic.{_↔_}
 use lib.Dec.{T, T-not, not-T}
 use lib.ListN.{getD}
-use Rattle.meaning.specs.Table.{Table, Node, formula, rule}
+use Rattle.meaning.specs.Table.{Table, Node, rule}
 use Rattle.meaning.specs.Laws.{Ordered}
 use Rattle.meaning.specs.Formula.{Formula, At}
 use Rattle.meaning.specs.Runs.{Run, pathOf, Violates, Holds}

@@ -2,7 +2,7 @@
 -- carried to all five of F, G, U, R and W. The product that is published states them; no promise on verdicts rests on them.
 use Prim.Native.Nat.{ℕ, _-_, _≤_, _<_}
 use mathlib.Core.Bool.{Bool, true, false, cond, not, _&&_, _||_}
-use mathlib.Core.List.{List, [], _∷_}
+use mathlib.Core.List.{[], _∷_}
 use lib.ListN.{getD}
 use Rattle.meaning.specs.Table.{Node}
 

@@ -1,7 +1,7 @@
 -- The three demands, for a stranger. `StateOutcome`, `StatesOutcome`, `JudgeOutcome` and `SearchOutcome` (specs/Outcomes.antt) are, by
 -- name, the whole `ensures` of the four functions of include/mullodai.h, which require nothing. So each line below speaks of anything
 -- that a call can answer and leave behind, whatever bytes, lists and numbers it was handed. Assumes nothing.
-use Prim.Native.Nat.{ℕ, _+_, _*_, _≤_, _<_}
+use Prim.Native.Nat.{ℕ, _+_, _*_, _≤_}
 use mathlib.Core.Path.{_≡_}
 use mathlib.Core.List.{List, _++_}
 use mathlib.Core.Logic.{_↔_}
@@ -70,13 +70,16 @@ module _ (bytes : List ℕ) (q : CaseRefusal) (refused : refusal bytes ≡ Refus
 
 module _ (bytes track : List ℕ) (k m : ℕ) (scratch : List ℕ) (r : Answer) (after : List ℕ)
     (outcome : JudgeOutcome bytes track k m scratch r after)
-    (read : refusal bytes ≡ Passed)
-    (asked : runRefusal (tableOf (partsOf bytes)) track k m (length scratch) ≡ RunCheck.Passed) where
-  pub demand-2 : ((r .number ≡ 1) ↔ Violates (tableOf (partsOf bytes)) (ruleOf (partsOf bytes)) track k m)
-      × ((r .number ≡ 0) ↔ (Violates (tableOf (partsOf bytes)) (ruleOf (partsOf bytes)) track k m → ⊥))
+    (read : refusal bytes ≡ Passed) where
+  -- any run whatever, if the scratch has room for it
+  pub demand-2 : (r .number ≡ 1) ↔ ((k + m ≤ length scratch) × Violates (tableOf (partsOf bytes)) (ruleOf (partsOf bytes)) track k m)
+  demand-2 = judge.says-violates bytes track k m scratch r after outcome read
+
+  -- and 0 to any other that rows 50 to 54 and 40 pass; after either the first k+m entries of the scratch are 0, the rest untouched
+  pub demand-2-satisfies : runRefusal (tableOf (partsOf bytes)) track k m (length scratch) ≡ RunCheck.Passed
+      → ((r .number ≡ 0) ↔ (Violates (tableOf (partsOf bytes)) (ruleOf (partsOf bytes)) track k m → ⊥))
       × (after ≡ replicate (k + m) 0 ++ drop (k + m) scratch)
-  demand-2 = (
-    judge.verdict-1 bytes track k m scratch r after outcome read asked,
+  demand-2-satisfies asked = (
     judge.verdict-0 bytes track k m scratch r after outcome read asked,
     judge.scratch-cleared bytes track k m scratch r after outcome read asked,
   )

@@ -1,12 +1,10 @@
 -- What the exported judge promises. `JudgeOutcome` is, by name, the whole `ensures` of
 -- `mullodai_judge`; each line below speaks of any answer r, with the scratch then left, that it allows. Assumes nothing.
-use Prim.Native.Nat.{ℕ, zero, suc, _+_, _≤_, _<_}
-use mathlib.Core.Path.{_≡_, refl, sym, ap, ap₂, subst, _∙_}
-use mathlib.Core.Bool.{Bool, true, false}
-use mathlib.Core.List.{List, [], _∷_, _++_}
-use mathlib.Core.Logic.{_⊎_, inl, inr, ⊎-elim, _↔_}
+use Prim.Native.Nat.{ℕ, _+_, _≤_}
+use mathlib.Core.Path.{_≡_, refl, sym, ap, subst, _∙_}
+use mathlib.Core.List.{List, _++_}
+use mathlib.Core.Logic.{_⊎_, ⊎-elim, _↔_}
 use native.Mathlib.Omega.{arith}
-use lib.Dec.{T}
 use lib.ListN.{length, drop, replicate}
 use Rattle.meaning.specs.Runs.{Violates}
 use Rattle.reading.specs.Parts.{tableOf, ruleOf}
@@ -20,7 +18,9 @@ use Rattle.judge.specs.Judged.{Judged, Told, outcome, answerNumber, answerPlace
 use Rattle.judge.specs.declared.RunRefusal.{RunRefusal}
 use Rattle.judge.specs.declared.RunCheck.{RunCheck}
 use Rattle.judge.specs.declared.Answer as judge
+use Rattle.judge.specs.declared.RunRefusal.the-variants.{NoLoop, TooLong, NoState, NotInitial, NoEdge, NoRoom}
 use Rattle.judge.proofs.Unique.{judged-unique}
+use Rattle.judge.proofs.Passed.{free, free-room, run-passes}
 use Rattle.mullodai.specs.Outcomes.{answerAt, JudgeOutcome}
 use Rattle.mullodai.specs.declared.Answer.{Answer}
 
@@ -117,3 +117,27 @@ module _ (bytes track : List ℕ) (k m : ℕ) (scratch : List ℕ) (r : Answer) 
       -- the first k+m scratch entries are 0, the rest untouched
       pub scratch-cleared : after ≡ replicate (k + m) 0 ++ drop (k + m) scratch
       scratch-cleared = told .1 .cleared
+
+    -- demand 2, of any run: 1 exactly when it violates and the scratch has room for it
+    pub says-violates : (r .number ≡ 1) ↔ ((k + m ≤ length scratch) × Violates (tableOf (partsOf bytes)) (ruleOf (partsOf bytes)) track k m)
+    says-violates = (
+      told-so (runRefusal (tableOf (partsOf bytes)) track k m (length scratch)) refl,
+      λ v.
+          ap (λ (x : Answer). x .number)
+          (violates-is-1 (run-passes (tableOf (partsOf bytes)) track k m (length scratch) (v .1 .run) (v .0)) (v .1)),
+    )
+      where
+        no-row : (q : RunRefusal) → runNumber q ≡ 1 → ⊥
+        no-row NoLoop e = omega arith
+        no-row (TooLong entries) e = omega arith
+        no-row (NoState entry) e = omega arith
+        no-row NotInitial e = omega arith
+        no-row (NoEdge entry) e = omega arith
+        no-row (NoRoom needed) e = omega arith
+
+        told-so : (c : RunCheck) → runRefusal (tableOf (partsOf bytes)) track k m (length scratch) ≡ c → r .number ≡ 1
+            → (k + m ≤ length scratch) × Violates (tableOf (partsOf bytes)) (ruleOf (partsOf bytes)) track k m
+        told-so (RunCheck.Refused q) refused e =
+            absurd (no-row q (sym (ap (λ (x : Answer). x .number) (run-refused q refused .0)) ∙ e))
+        told-so RunCheck.Passed passed e =
+            (free-room (free (tableOf (partsOf bytes)) track k m (length scratch) passed), 1-is-violates passed e)

@@ -1,20 +1,15 @@
 -- What the exported search promises. `SearchOutcome` is, by name, the whole `ensures` of
 -- `mullodai_search`; each line below speaks of any answer r, with the workspace and the track then left, that it allows. Assumes nothing.
-use Prim.Native.Nat.{ℕ, zero, suc, _+_, _-_, _*_, _≤_, _<_}
+use Prim.Native.Nat.{ℕ, _+_, _*_, _≤_, _<_}
 use mathlib.Core.Path.{_≡_, refl, sym, ap, subst, _∙_}
-use mathlib.Core.Bool.{Bool, true, false, not}
-use mathlib.Core.List.{List, [], _∷_, _++_}
+use mathlib.Core.Bool.{Bool, false}
+use mathlib.Core.List.{List, _++_}
 use mathlib.Core.Logic.{_⊎_, inl, inr, ⊎-elim, _↔_}
 use native.Mathlib.Omega.{arith}
-use native.Mathlib.Decide.{decLt}
-use lib.Dec.{T, ltb}
-use lib.ListN.{length, getD, drop, replicate}
-use borrow.Author.Tests.{lt-ltb, le-ltb, lt-leb, ne-eqb}
-use Rattle.meaning.specs.Runs.{Run, Violates, Holds, position}
-use Rattle.meaning.specs.Table.{Table}
-use Rattle.meaning.proofs.Loops.{position-in}
-use Rattle.meaning.proofs.Positions.{position-closes}
-use Rattle.reading.specs.Lowest.{any}
+use lib.Dec.{ltb}
+use lib.ListN.{length, drop, replicate}
+use borrow.Author.Tests.{lt-ltb, le-ltb}
+use Rattle.meaning.specs.Runs.{Violates, Holds}
 use Rattle.reading.specs.Parts.{tableOf, ruleOf, places}
 use Rattle.reading.specs.Refusals.{partsOf, refusal}
 use Rattle.reading.specs.Night.{night}
@@ -22,42 +17,15 @@ use Rattle.reading.specs.Answers.{numberOf, placeOf}
 use Rattle.reading.specs.declared.CaseRefusal.{CaseRefusal}
 use Rattle.reading.specs.declared.Check.{Check}
 use Rattle.reading.specs.declared.Check.the-variants.{Passed, Refused}
-use Rattle.reading.proofs.Lowest.{any-none}
-use Rattle.judge.specs.Refusals.{outside, gap, storedRefusal, runRefusal}
-use Rattle.judge.specs.declared.RunCheck.{RunCheck}
-use Rattle.workspace.proofs.Case.{T-is-true}
 use Rattle.search.specs.Answers.{number, place, stem, loop}
 use Rattle.search.specs.Outcome.{Searched, Reads, Searches, Refuses, Decides, workspaceNeeds, trackNeeds, cleared}
 use Rattle.search.specs.declared.SearchAnswer.{SearchAnswer}
-use Rattle.search.proofs.Outcomes.{Agree, searched-agree, searched-decides, decides-exactly}
+use Rattle.search.proofs.Outcomes.{searched-agree, searched-decides, decides-exactly}
 use Rattle.search.proofs.Night.{nightWithout, night-violated, night-written, night-short, without-held}
 use Rattle.mullodai.specs.Outcomes.{answerAt, JudgeOutcome, SearchOutcome, searchAnswer}
 use Rattle.mullodai.specs.declared.Answer.{Answer}
+use Rattle.judge.proofs.Passed.{run-passes}
 use Rattle.mullodai.proofs.Judge.{violates-is-1}
-
--- rows 50 to 54 and 40 pass a run of the table that the scratch has room for
-run-passes : (t : Table) (track : List ℕ) (k m room : ℕ) → Run t track k m → k + m ≤ room → runRefusal t track k m room ≡ RunCheck.Passed
-unfolding runRefusal storedRefusal
-run-passes t track k m room r h =
-    rw (ne-eqb m 0 some, le-ltb (length track) (k + m) (r .stored), inside, T-is-true (t .initial (getD track 0 0)) (r .begins), stepping, le-ltb room (k + m) h)
-  where
-    some : m ≡ 0 → ⊥
-    some e = omega (arith, r .loops)
-
-    inside : any (outside t track) (k + m) ≡ false
-    inside = any-none (outside t track) (k + m) (λ j l. lt-leb (t .states) (getD track j 0) (r .states j l))
-
-    edge : (i : ℕ) → i < k + m → Dec (suc i < k + m) → T (t .edge (getD track i 0) (getD track (position k m (suc i)) 0))
-    edge i l (yes c) = subst (λ (p : ℕ). T (t .edge (getD track i 0) (getD track p 0))) (sym (position-in k m (suc i) c)) (r .steps i c)
-    edge i l (no c) =
-        let last : suc i ≡ k + m = omega arith in
-        let here : k + m - 1 ≡ i = omega arith in
-        subst (λ (p : ℕ). T (t .edge (getD track i 0) (getD track p 0)))
-        (sym (ap (position k m) last ∙ position-closes k m (r .loops)))
-        (subst (λ (x : ℕ). T (t .edge (getD track x 0) (getD track k 0))) here (r .closes))
-
-    stepping : any (gap t track k m) (k + m) ≡ false
-    stepping = any-none (gap t track k m) (k + m) (λ i l. ap not (T-is-true (t .edge (getD track i 0) (getD track (position k m (suc i)) 0)) (edge i l (decLt (suc i) (k + m)))))
 
 -- two outcomes for one input agree in all but the run, its k and its m: in the number, the place, every entry of the workspace, the
 -- track's length; and, unless it is violated, in the whole answer and every entry of the track

@@ -1,13 +1,12 @@
 -- "A judge with one constant answer breaks demand 2 on M1 and M3": as real cases, with one run each, the promise forces 0 and 1.
 -- By computation: the cases are read, the runs are theirs, and `truth` decides the rule on their paths. Assumes nothing.
-use Prim.Native.Nat.{ℕ, _+_}
+use Prim.Native.Nat.{ℕ}
 use mathlib.Core.Path.{_≡_, refl}
-use mathlib.Core.Bool.{true, false}
 use mathlib.Core.List.{List, [], _∷_}
 use lib.Dec.{T}
 use Rattle.bits.specs.Bits.{bit}
 use Rattle.meaning.specs.Table.{formulaOf, formulas, formula, rule}
-use Rattle.meaning.specs.Runs.{position, pathOf, Violates}
+use Rattle.meaning.specs.Runs.{position, pathOf}
 use Rattle.meaning.proofs.Verdicts.{path-repeats}
 use Rattle.meaning.proofs.Decided.{truth, truth-tells}
 use Rattle.reading.specs.Lowest.{lowest, any, count}

@@ -3,7 +3,7 @@
 -- Assumes nothing.
 use Prim.Native.Nat.{ℕ, _+_, _*_, _/_, _%_, _^_, _≤_, _<_}
 use native.Mathlib.Omega.{arith}
-use native.Mathlib.Nat.{mod-lt, div-add-mod', div-lt-iff-lt-mul}
+use native.Mathlib.Nat.{div-add-mod', div-lt-iff-lt-mul}
 use mathlib.Core.Path.{_≡_, sym, ap, _∙_}
 use lib.Arith.{digits-lt, digits-div, digits-mod}
 use lib.Pow.{pow-pos}
@@ -49,14 +49,6 @@ module _ (T E : ℕ) where
   placeOf-state S x h =
       div-lt-iff-lt-mul (pow-pos T) .1 (div-lt-iff-lt-mul {k = E + 1} (omega arith) .1 h)
 
-  pub placeOf-bits : (x : ℕ) → placeOf T E x .bits < 2 ^ T
-  unfolding placeOf
-  placeOf-bits x = mod-lt (x / (E + 1)) (pow-pos T)
-
-  pub placeOf-waiting : (x : ℕ) → placeOf T E x .waiting ≤ E
-  unfolding placeOf
-  placeOf-waiting x = omega (arith, mod-lt x {m = E + 1} (omega arith))
-
 -- the same of a product's places
 module _ (g : Product) where
   pub numbering-below : (p : Place) → p .state < g .table .states → p .bits < 2 ^ width g → p .waiting ≤ top g
@@ -76,14 +68,6 @@ module _ (g : Product) where
   unfolding place size
   place-state x h = placeOf-state (width g) (top g) (g .table .states) x h
 
-  pub place-bits : (x : ℕ) → place g x .bits < 2 ^ width g
-  unfolding place
-  place-bits x = placeOf-bits (width g) (top g) x
-
-  pub place-waiting : (x : ℕ) → place g x .waiting ≤ top g
-  unfolding place
-  place-waiting x = placeOf-waiting (width g) (top g) x
-
 -- the code s·128 + b·8 + w comes apart by numerals
 module _ (s b w : ℕ) (bits : b < 16) (waiting : w < 8) where
   pub code-state : (s * 128 + b * 8 + w) / 128 ≡ s
@@ -94,7 +78,3 @@ module _ (s b w : ℕ) (bits : b < 16) (waiting : w < 8) where
 
   pub code-waiting : (s * 128 + b * 8 + w) % 8 ≡ w
   code-waiting = omega arith
-
-  -- with 64 states it fits 16 bits
-  pub code-below : s < 64 → s * 128 + b * 8 + w < 8192
-  code-below h = omega arith

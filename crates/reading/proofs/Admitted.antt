@@ -1,6 +1,6 @@
 -- What is known of the parts of a case that is not refused, fact by fact: all that the layers above use. (Shown from the
 -- refusals in `proofs/Facts`.) That every state starts an edge is left out on purpose.
-use Prim.Native.Nat.{ℕ, suc, _+_, _*_, _^_, _≤_, _<_}
+use Prim.Native.Nat.{ℕ, suc, _*_, _^_, _≤_, _<_}
 use mathlib.Core.Path.{_≡_}
 use mathlib.Core.Logic.{_⊎_}
 use mathlib.Core.Bool.{false}

@@ -8,4 +8,3 @@ pub mod Known
 pub mod Spans
 pub mod Read
 pub mod Examples
-pub mod Edges

@@ -1,10 +1,10 @@
 // A case is read: refused exactly as the table says, or admitted with its sizes. Above that, what the other layers ask of an
 // admitted case. Walks and accessors take a part as a slice.
 ghost use mathlib.Core.Path.{_≡_};
-ghost use Prim.Native.Nat.{ℕ, _+_, _*_, _≤_, _<_, _/_, _^_};
-ghost use lib.ListN.{length, getD};
+ghost use Prim.Native.Nat.{_+_, _*_, _<_, _/_};
+ghost use lib.ListN.{length};
 ghost use Rattle.reading.specs.Refusals.{fieldsRefusal, partsRefusal, partsOf, shapeOf, readAs, caseOf};
-ghost use Rattle.reading.specs.Answers.{numberOf, placeOf, recordOf, stateOf, stateNumber, statePlace};
+ghost use Rattle.reading.specs.Answers.{numberOf, placeOf, recordOf, stateOf};
 ghost use Rattle.reading.specs.declared.Check.{Check};
 ghost use Rattle.reading.specs.declared.Case.{Case};
 

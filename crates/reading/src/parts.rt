@@ -2,9 +2,9 @@
 ghost use mathlib.Core.Path.{_≡_};
 ghost use mathlib.Core.Bool.{cond, _&&_};
 ghost use lib.Dec.{leb, eqb};
-ghost use Prim.Native.Nat.{ℕ, _+_, _*_, _≤_, _<_, _/_, _^_};
+ghost use Prim.Native.Nat.{_+_, _*_, _≤_, _<_, _/_, _^_};
 ghost use lib.ListN.{length, getD};
-ghost use Rattle.reading.specs.Parts.{labelOf, flagsOf, initialOf, fromOf, toOf, hasEdge, nodeOf, operatorsFrom, edgeCount, nodeCount};
+ghost use Rattle.reading.specs.Parts.{labelOf, flagsOf, initialOf, fromOf, toOf, hasEdge, nodeOf, operatorsFrom};
 ghost use Rattle.reading.specs.Refusals.{partsOf, caseOf};
 ghost use Rattle.reading.specs.declared.Case.{Case};
 use crate::Shape;

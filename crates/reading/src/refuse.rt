@@ -1,10 +1,10 @@
 // The refusals, in the order of the table. A walk gives the lowest bad place, or the number of places if none is bad.
 ghost use mathlib.Core.Path.{_≡_};
 ghost use mathlib.Core.Bool.{_||_};
-ghost use Prim.Native.Nat.{ℕ, _+_, _*_, _≤_, _<_, _/_, _^_};
-ghost use lib.ListN.{length, getD};
+ghost use Prim.Native.Nat.{_+_, _*_, _≤_, _<_, _/_};
+ghost use lib.ListN.{length};
 ghost use Rattle.meaning.specs.Laws.{operands as operandsOf};
-ghost use Rattle.reading.specs.Lowest.{lowest, any};
+ghost use Rattle.reading.specs.Lowest.{lowest};
 ghost use Rattle.reading.specs.Parts.{edgeCount, nodeCount};
 ghost use Rattle.reading.specs.Refusals.{inSteps, lengthAt, outOfRange, fieldRefusal, lastRefusal, fieldsRefusal, badState, badEnd, above, notAbove, startsNone, unknown, firstLimit, secondLimit, wrongByte, statesRefusal, edgesRefusal, deadEndRefusal, nodesRefusal, temporalsRefusal, partsRefusal};
 use crate::CaseRefusal;

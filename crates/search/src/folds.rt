@@ -2,7 +2,7 @@
 // loop goes into it. The endless path stays as it is. Which run is shown is not promised; this is for the reader's sake.
 ghost use mathlib.Core.Path.{_≡_};
 ghost use mathlib.Core.Bool.{true};
-ghost use Prim.Native.Nat.{ℕ, _+_, _*_, _≤_, _<_};
+ghost use Prim.Native.Nat.{_+_, _*_, _≤_, _<_};
 ghost use Rattle.meaning.specs.Runs.{position};
 ghost use Rattle.meaning.proofs.Folds.{Rotates, Backs};
 ghost use Rattle.workspace.proofs.Tracks.{runIn, Lies};

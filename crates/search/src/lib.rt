@@ -93,21 +93,14 @@ fn verdict(
     let states = parts::state_list(bytes, shape);
     let edges = parts::edge_list(bytes, shape);
     let nodes = parts::node_list(bytes, shape);
-    let state_count = shape.states;
-    let node_count = shape.nodes;
+    let count = shape.states;
+    let n = shape.nodes;
     let top = shape.eventualities;
     let mut rows = [0u16; 2048];
     let mut lanes = [0u16; 1024];
     let mut starts = [0u16; 65];
-    lanes::fill(
-        states,
-        nodes,
-        state_count,
-        node_count,
-        &mut rows,
-        &mut lanes,
-    );
-    lanes::starts::fill(edges, state_count, &mut starts);
+    lanes::fill(states, nodes, count, n, &mut rows, &mut lanes);
+    lanes::starts::fill(edges, count, &mut starts);
     let guesses = parts::guesses(shape.temporals);
     let ones = places::ones(guesses);
     let sizes = Sizes {
@@ -116,7 +109,7 @@ fn verdict(
         top,
         places,
     };
-    let last = (node_count - 1) * 64;
+    let last = (n - 1) * 64;
     match turns::search_roots(
         states,
         edges,

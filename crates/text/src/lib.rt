@@ -1,7 +1,7 @@
 // The verdict as text, byte for byte as the program prints it, in a lent array that the longest text fills.
 ghost use mathlib.Core.Path.{_≡_};
 ghost use mathlib.Core.List.{_∷_, []};
-ghost use Prim.Native.Nat.{ℕ, _+_, _≤_, _<_};
+ghost use Prim.Native.Nat.{_+_, _≤_, _<_};
 ghost use lib.ListN.{length};
 ghost use Rattle.text.specs.Text.{digits, statesText, refusedText, violatedText, verdictText, Written, Printed, Shown};
 

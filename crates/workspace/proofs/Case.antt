@@ -9,7 +9,7 @@ use lib.Dec.{T, ltb}
 use lib.ListN.{length}
 use lib.Pow.{pow-mono}
 use borrow.Author.Tests.{ltb-true, lt-ltb}
-use Rattle.meaning.proofs.Truths.{T-along}
+use Rattle.meaning.proofs.Truths.{T-along, T-is-true}
 use Rattle.reading.specs.Lowest.{count}
 use Rattle.reading.specs.Parts.{Parts, tableOf, edgeCount, nodeCount, nodeOf, operatorFrom, operatorsFrom, temporals, eventualities, places}
 use Rattle.reading.proofs.Admitted.{Admitted}
@@ -46,10 +46,6 @@ module _ (p : Parts) (a : Admitted p) where
   size-is = ap₂ (λ (t e : ℕ). p .states * 2 ^ t * (e + 1)) width-is top-is
 
 -- ---- the graph
-
-pub T-is-true : (b : Bool) → T b → b ≡ true
-T-is-true true t = refl
-T-is-true false t = absurd t
 
 -- a waiting number moves within 0 to E
 pub next-within : (g : Product) (from : Place) → next g from ≤ top g

@@ -8,13 +8,13 @@ use mathlib.Core.List.{List}
 use mathlib.Core.Logic.{⊎-elim}
 use lib.Dec.{T, leb, eqb, eqb→eq}
 use borrow.Author.Tests.{leb-true, leb-false, eq-eqb, le-leb, lt-leb}
-use Rattle.meaning.proofs.Truths.{T-along, T-and}
+use Rattle.meaning.proofs.Truths.{T-along, T-and, T-is-true}
 use Rattle.reading.specs.Lowest.{lowest}
 use Rattle.reading.specs.Parts.{Parts, edgeCount, fromOf, toOf, hasEdge}
 use Rattle.reading.proofs.Admitted.{Admitted}
 use Rattle.reading.proofs.Lowest.{lowest-is, lowest-passed, lowest-found, any-true, any-found}
 use Rattle.workspace.proofs.Setting.{startOf}
-use Rattle.workspace.proofs.Case.{T-is-true, start-within}
+use Rattle.workspace.proofs.Case.{start-within}
 
 -- ---- edges
 

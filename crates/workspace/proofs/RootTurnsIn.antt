@@ -18,7 +18,7 @@ use Rattle.product.proofs.Numbers.{code-state, code-bits, code-waiting}
 use Rattle.graph.proofs.Graph.{_!_}
 use Rattle.graph.proofs.Machine.{white, cyan}
 use Rattle.workspace.proofs.Setting.{productOf, codeOf, numberIn, Coded, Setting}
-use Rattle.workspace.proofs.Case.{guesses-within, top-within, top-is, coded-small, code-coded}
+use Rattle.workspace.proofs.Case.{guesses-within, top-is, coded-small, code-coded}
 use Rattle.workspace.proofs.Roots.{Rooting, rootAt, root-initial}
 use Rattle.workspace.proofs.Views.{Kept, kept-same, kept-set}
 use Rattle.workspace.proofs.ViewsIn.{graphIn, number-is, number-below, OuterIn}
@@ -40,9 +40,6 @@ root-row guesses top s = ap (λ (k : ℕ). k * (top + 1)) (omega (arith, native.
 module _ {edges lanes starts : List ℕ} {guesses ones top size : ℕ} (x : Setting edges lanes starts guesses ones top size) where
   pub guesses-few : guesses ≤ 16
   guesses-few = omega (arith, x .guesses-are, guesses-within (x .parts) (x .admitted))
-
-  pub top-few : top ≤ 4
-  top-few = omega (arith, x .top-is, top-within (x .parts) (x .admitted))
 
   -- as many states as the code counts
   pub rooting-count : {states rows : List ℕ} {last : ℕ} (q : Rooting states rows last guesses) → q .parts ≡ x .parts → length states / 3 ≡ x .parts .states

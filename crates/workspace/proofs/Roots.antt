@@ -32,9 +32,6 @@ module _ {states rows : List ℕ} {last guesses : ℕ} (c : Rooting states rows 
   pub rooting-guesses : guesses ≤ 16
   rooting-guesses = omega (arith, c .guesses-are, guesses-within (c .parts) (c .admitted))
 
-  pub rooting-last : last ≤ 1984
-  rooting-last = omega (arith, c .last-is, c .admitted .few-nodes)
-
   pub rooting-state : (s : ℕ) → s < c .parts .states → 3 * s + 2 < length states
   rooting-state s h = rw (c .states-are, c .admitted .state-bytes) (omega arith)
 

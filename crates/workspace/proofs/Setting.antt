@@ -3,10 +3,10 @@
 use Prim.Native.Nat.{ℕ, suc, _+_, _-_, _*_, _/_, _%_, _^_, _≤_, _<_}
 use mathlib.Core.Path.{_≡_}
 use mathlib.Core.Bool.{cond, _&&_}
-use mathlib.Core.List.{List, map}
+use mathlib.Core.List.{List}
 use mathlib.Core.Option.{Option, some, none}
 use lib.Dec.{leb, ltb}
-use lib.ListN.{length, getD, take, drop}
+use lib.ListN.{length, getD}
 use Rattle.reading.specs.Lowest.{lowest}
 use Rattle.reading.specs.Parts.{Parts, tableOf, edgeCount, fromOf, toOf, nodeCount, nodeOf, temporals, eventualities, places}
 use Rattle.reading.proofs.Admitted.{Admitted}

@@ -155,6 +155,3 @@ module _ (g : Graph) (place : ℕ → ℕ) (base code : ℕ) (ws : List ℕ) whe
 
     pub begun-long : length begun ≡ length ws
     begun-long = length-set (set ws base code) (base + g .P) 0 ∙ length-set ws base code
-
-    pub begun-kept : base ≤ 4 * g .P → Kept (g .P) ws begun
-    begun-kept low = kept-set (kept-set (kept-same (g .P) ws) base code (omega arith)) (base + g .P) 0 (omega arith)

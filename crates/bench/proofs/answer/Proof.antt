@@ -1,5 +1,5 @@
 -- `bench::answer` meets its contract: the search, then its text; a violated answer's run can be shown. Assumes nothing.
-use mathlib.Core.Path.{_≡_, _∙_}
+use mathlib.Core.Path.{_∙_}
 use Rattle.bench.proofs.Says.{sayable, textOf}
 use borrow.Author.Needs.{needs}
 use Rattle.bench.proofs.answer.Statement.{statement}

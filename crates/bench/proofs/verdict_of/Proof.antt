@@ -1,6 +1,6 @@
 -- `bench::verdict_of` meets its contract: an arm for each answer. Assumes nothing.
 use Prim.Native.Nat.{ℕ}
-use mathlib.Core.Path.{_≡_, sym, ap, ap₂, _∙_}
+use mathlib.Core.Path.{sym, ap, ap₂, _∙_}
 use Rattle.bench.specs.Told.{verdictOf}
 use borrow.Author.Needs.{needs}
 use Rattle.bench.proofs.verdict_of.Statement.{statement}

@@ -1,7 +1,5 @@
 -- `mullodai::mullodai_judge` meets its contract: the judge's answer, by its number and place. Assumes nothing.
-use mathlib.Core.Path.{sym, ap, ap₂, _∙_}
 use borrow.Author.Needs.{needs}
-use Rattle.mullodai.specs.Outcomes.{answerAt}
 use Rattle.mullodai.proofs.mullodai_judge.Statement.{statement}
 use Rattle.mullodai.proofs.mullodai_judge.Tie as tie
 

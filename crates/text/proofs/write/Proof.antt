@@ -1,7 +1,6 @@
 -- `text::write` meets its contract: the number picks the text, which is one part at 0. Assumes nothing.
-use mathlib.Core.Path.{_≡_, sym}
+use mathlib.Core.Path.{sym}
 use native.Mathlib.Omega.{arith}
-use lib.ListN.{length, take}
 use borrow.Author.Tests.{eq-eqb, ne-eqb}
 use native.Mathlib.Nat.{add-sub-cancel-left}
 use lib.Seq.{length-take-le}

@@ -1,6 +1,6 @@
 -- `search::folds::entry_at` meets its contract: within the entries it is the position's own, and after them the one a turn before.
 -- Assumes nothing.
-use Prim.Native.Nat.{ℕ, _+_, _-_}
+use Prim.Native.Nat.{_+_, _-_}
 use native.Mathlib.Omega.{arith}
 use mathlib.Core.Path.{_≡_, sym, ap, _∙_}
 use borrow.Author.Needs.{needs}

@@ -1,6 +1,6 @@
 -- `search::folds::fold_loop` meets its contract: the loop comes round after what is returned, at the latest after a whole turn. The loop's
 -- invariant: what is tried is at least 1. The measure is what is left to try. Assumes nothing.
-use Prim.Native.Nat.{ℕ, _-_, _≤_}
+use Prim.Native.Nat.{_-_, _≤_}
 use native.Mathlib.Omega.{arith}
 use Rattle.meaning.proofs.Folds.{turn-rotates}
 use Rattle.search.proofs.folds.fold_loop.Statement.{statement}

@@ -1,9 +1,8 @@
 -- `search::folds::fold_stem` meets its contract. The loop's invariant: every entry of the stem passed is the one p further on. The measure is
 -- what is left of the stem. Assumes nothing.
-use Prim.Native.Nat.{ℕ, suc, _+_, _-_, _≤_, _<_}
+use Prim.Native.Nat.{_≤_}
 use native.Mathlib.Omega.{arith}
-use mathlib.Core.Path.{_≡_, sym, ap, _∙_}
-use borrow.Author.Needs.{needs}
+use mathlib.Core.Path.{sym, _∙_}
 use Rattle.meaning.proofs.Folds.{Backs, backs-more}
 use Rattle.workspace.proofs.Tracks.{runIn}
 use Rattle.search.proofs.folds.fold_stem.Statement.{statement}

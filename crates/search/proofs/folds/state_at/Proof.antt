@@ -1,7 +1,7 @@
 -- `search::folds::state_at` meets its contract: below `outer` it is the outer stack's, and then the inner one's. Assumes nothing.
 use Prim.Native.Nat.{ℕ, _/_}
 use native.Mathlib.Omega.{arith}
-use mathlib.Core.Path.{_≡_, sym, ap, _∙_}
+use mathlib.Core.Path.{ap, _∙_}
 use borrow.Author.Needs.{needs}
 use borrow.Author.Tests.{lt-ltb, le-ltb}
 use Rattle.search.proofs.folds.state_at.Statement.{statement}

@@ -1,9 +1,8 @@
 -- `search::tracks::write` meets its contract. The loop's invariant: so many states are written, the rest of the track is as it was. The measure is
 -- the states left. Assumes nothing.
-use Prim.Native.Nat.{ℕ, _+_, _-_, _≤_}
+use Prim.Native.Nat.{ℕ, _-_, _≤_}
 use native.Mathlib.Omega.{arith}
 use mathlib.Core.Path.{_≡_, subst}
-use borrow.Author.Needs.{needs}
 use Rattle.workspace.proofs.Tracks.{Wrote, wrote-none, wrote-more}
 use Rattle.search.proofs.tracks.write.Statement.{statement}
 use Rattle.search.proofs.tracks.write.Tie as tie
