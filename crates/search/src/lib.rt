@@ -19,8 +19,6 @@ use reading::parts;
 use scans::places;
 use scans::places::Sizes;
 
-pub mod folds;
-pub mod tracks;
 pub mod turns;
 
 // The search's answer: the case's refusal; the entries that the workspace or the track needs; holds; or violated, with k and m.
@@ -145,8 +143,8 @@ fn show(
 {
     let k = tracks::find(workspace, places, at);
     let m = outer + inner - 1 - k;
-    let repeat = folds::fold_loop(workspace, places, outer, k, m);
-    let stem = folds::fold_stem(workspace, places, outer, k, repeat);
+    let repeat = tracks::folds::fold_loop(workspace, places, outer, k, m);
+    let stem = tracks::folds::fold_stem(workspace, places, outer, k, repeat);
     tracks::write(workspace, places, outer, stem + repeat, track);
     SearchAnswer::Violated { stem, repeat }
 }

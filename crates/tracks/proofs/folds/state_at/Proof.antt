@@ -1,11 +1,11 @@
--- `search::folds::state_at` meets its contract: below `outer` it is the outer stack's, and then the inner one's. Assumes nothing.
+-- `tracks::folds::state_at` meets its contract: below `outer` it is the outer stack's, and then the inner one's. Assumes nothing.
 use Prim.Native.Nat.{ℕ, _/_}
 use native.Mathlib.Omega.{arith}
 use mathlib.Core.Path.{ap, _∙_}
 use borrow.Author.Needs.{needs}
 use borrow.Author.Tests.{lt-ltb, le-ltb}
-use Rattle.search.proofs.folds.state_at.Statement.{statement}
-use Rattle.search.proofs.folds.state_at.Tie as tie
+use Rattle.tracks.proofs.folds.state_at.Statement.{statement}
+use Rattle.tracks.proofs.folds.state_at.Tie as tie
 
 add-wide : tie.Need-add-wide
 add-wide c = search needs

@@ -1,4 +1,4 @@
--- `search::folds::entry_at` meets its contract: within the entries it is the position's own, and after them the one a turn before.
+-- `tracks::folds::entry_at` meets its contract: within the entries it is the position's own, and after them the one a turn before.
 -- Assumes nothing.
 use Prim.Native.Nat.{_+_, _-_}
 use native.Mathlib.Omega.{arith}
@@ -6,8 +6,8 @@ use mathlib.Core.Path.{_≡_, sym, ap, _∙_}
 use borrow.Author.Needs.{needs}
 use Rattle.meaning.specs.Runs.{position}
 use Rattle.meaning.proofs.Loops.{position-in, position-repeats}
-use Rattle.search.proofs.folds.entry_at.Statement.{statement}
-use Rattle.search.proofs.folds.entry_at.Tie as tie
+use Rattle.tracks.proofs.folds.entry_at.Statement.{statement}
+use Rattle.tracks.proofs.folds.entry_at.Tie as tie
 
 add-if1 : tie.Need-add-if1
 add-if1 c = search needs

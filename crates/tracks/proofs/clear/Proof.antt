@@ -1,4 +1,4 @@
--- `search::tracks::clear` meets its contract. The loop's invariant: the entries passed are 0, the rest is as it was. The measure is the entries left.
+-- `tracks::clear` meets its contract. The loop's invariant: the entries passed are 0, the rest is as it was. The measure is the entries left.
 -- Assumes nothing.
 use Prim.Native.Nat.{ℕ, _-_, _≤_}
 use native.Mathlib.Omega.{arith}
@@ -6,8 +6,8 @@ use mathlib.Core.Path.{_≡_, refl, ap, _∙_}
 use mathlib.Core.List.{List, _++_}
 use lib.ListN.{length, set, drop, replicate}
 use borrow.Author.Fill.{fill-none, fill-more}
-use Rattle.search.proofs.tracks.clear.Statement.{statement}
-use Rattle.search.proofs.tracks.clear.Tie as tie
+use Rattle.tracks.proofs.clear.Statement.{statement}
+use Rattle.tracks.proofs.clear.Tie as tie
 
 abbrev Inv-loop : tie.InvT-loop
 Inv-loop workspace₀ n cleared₀ workspace cleared = (cleared ≤ n) × (workspace ≡ replicate cleared 0 ++ drop cleared workspace₀) × (length workspace ≡ length workspace₀)

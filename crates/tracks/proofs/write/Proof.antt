@@ -1,11 +1,11 @@
--- `search::tracks::write` meets its contract. The loop's invariant: so many states are written, the rest of the track is as it was. The measure is
+-- `tracks::write` meets its contract. The loop's invariant: so many states are written, the rest of the track is as it was. The measure is
 -- the states left. Assumes nothing.
 use Prim.Native.Nat.{ℕ, _-_, _≤_}
 use native.Mathlib.Omega.{arith}
 use mathlib.Core.Path.{_≡_, subst}
 use Rattle.workspace.proofs.Tracks.{Wrote, wrote-none, wrote-more}
-use Rattle.search.proofs.tracks.write.Statement.{statement}
-use Rattle.search.proofs.tracks.write.Tie as tie
+use Rattle.tracks.proofs.write.Statement.{statement}
+use Rattle.tracks.proofs.write.Tie as tie
 
 abbrev Inv-loop : tie.InvT-loop
 Inv-loop workspace places outer n track₀ i₀ track i = (i ≤ n) × Wrote workspace places outer i track₀ track

@@ -1,4 +1,4 @@
--- `search::tracks::find` meets its contract. The loop's invariant: the code stands at no index passed; since it stands somewhere, the index stays within
+-- `tracks::find` meets its contract. The loop's invariant: the code stands at no index passed; since it stands somewhere, the index stays within
 -- the workspace. The measure is what is left of the workspace. Assumes nothing.
 use Prim.Native.Nat.{ℕ, _+_, _-_, _<_}
 use native.Mathlib.Omega.{arith}
@@ -6,8 +6,8 @@ use mathlib.Core.Path.{_≡_}
 use lib.ListN.{length, getD}
 use borrow.Author.Count.{below-more}
 use Rattle.workspace.proofs.Tracks.{stands-later}
-use Rattle.search.proofs.tracks.find.Statement.{statement}
-use Rattle.search.proofs.tracks.find.Tie as tie
+use Rattle.tracks.proofs.find.Statement.{statement}
+use Rattle.tracks.proofs.find.Tie as tie
 
 abbrev Inv-loop : tie.InvT-loop
 Inv-loop workspace base code index₀ index = (j : ℕ) → j < index → getD workspace (base + j) 0 ≡ code → ⊥

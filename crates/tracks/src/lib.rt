@@ -4,7 +4,8 @@ ghost use mathlib.Core.List.{_++_};
 ghost use Prim.Native.Nat.{_+_, _-_, _≤_, _<_};
 ghost use lib.ListN.{length, drop, replicate};
 ghost use Rattle.workspace.proofs.Tracks.{Stands, Lowest, Lies, Wrote};
-use crate::folds;
+
+pub mod folds;
 
 // Makes the first n entries 0.
 pub fn clear(workspace: &mut [u16], n: usize)

@@ -1,10 +1,10 @@
--- `search::folds::fold_loop` meets its contract: the loop comes round after what is returned, at the latest after a whole turn. The loop's
+-- `tracks::folds::fold_loop` meets its contract: the loop comes round after what is returned, at the latest after a whole turn. The loop's
 -- invariant: what is tried is at least 1. The measure is what is left to try. Assumes nothing.
 use Prim.Native.Nat.{_-_, _≤_}
 use native.Mathlib.Omega.{arith}
 use Rattle.meaning.proofs.Folds.{turn-rotates}
-use Rattle.search.proofs.folds.fold_loop.Statement.{statement}
-use Rattle.search.proofs.folds.fold_loop.Tie as tie
+use Rattle.tracks.proofs.folds.fold_loop.Statement.{statement}
+use Rattle.tracks.proofs.folds.fold_loop.Tie as tie
 
 abbrev Inv-loop : tie.InvT-loop
 Inv-loop workspace places outer k m p₀ p = 1 ≤ p

@@ -1,12 +1,12 @@
--- `search::folds::fold_stem` meets its contract. The loop's invariant: every entry of the stem passed is the one p further on. The measure is
+-- `tracks::folds::fold_stem` meets its contract. The loop's invariant: every entry of the stem passed is the one p further on. The measure is
 -- what is left of the stem. Assumes nothing.
 use Prim.Native.Nat.{_≤_}
 use native.Mathlib.Omega.{arith}
 use mathlib.Core.Path.{sym, _∙_}
 use Rattle.meaning.proofs.Folds.{Backs, backs-more}
 use Rattle.workspace.proofs.Tracks.{runIn}
-use Rattle.search.proofs.folds.fold_stem.Statement.{statement}
-use Rattle.search.proofs.folds.fold_stem.Tie as tie
+use Rattle.tracks.proofs.folds.fold_stem.Statement.{statement}
+use Rattle.tracks.proofs.folds.fold_stem.Tie as tie
 
 abbrev Inv-loop : tie.InvT-loop
 Inv-loop workspace places outer k p stem₀ stem = (stem ≤ k) × Backs (runIn workspace places outer) stem k p

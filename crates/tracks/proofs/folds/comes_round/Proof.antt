@@ -1,4 +1,4 @@
--- `search::folds::comes_round` meets its contract. The loop's invariant: every entry of the loop passed is the one p further round. The
+-- `tracks::folds::comes_round` meets its contract. The loop's invariant: every entry of the loop passed is the one p further round. The
 -- measure is what is left of the entries. Assumes nothing.
 use Prim.Native.Nat.{ℕ, _+_, _-_, _≤_, _<_}
 use native.Mathlib.Omega.{arith}
@@ -10,8 +10,8 @@ use borrow.Author.Needs.{needs}
 use Rattle.meaning.specs.Runs.{position}
 use Rattle.meaning.proofs.Positions.{position-below}
 use Rattle.workspace.proofs.Tracks.{runIn}
-use Rattle.search.proofs.folds.comes_round.Statement.{statement}
-use Rattle.search.proofs.folds.comes_round.Tie as tie
+use Rattle.tracks.proofs.folds.comes_round.Statement.{statement}
+use Rattle.tracks.proofs.folds.comes_round.Tie as tie
 
 abbrev Inv-loop : tie.InvT-loop
 Inv-loop workspace places outer k m p end here₀ here =
