@@ -1,4 +1,4 @@
-//! mullodai_search against the own verdict; every run it shows is put to both judges.
+//! mullodai_search against the own verdict; every run it shows is put to both judges, and must be folded.
 #![forbid(unsafe_code)]
 
 mod damaged;
@@ -108,7 +108,7 @@ fn run_length(answer: &Answer, track_length: usize) -> usize {
     }
 }
 
-/// Without a run k and m are 0; a run must be condemned by both judges.
+/// Without a run k and m are 0; a run must be condemned by both judges, and shown no longer than its path needs.
 fn look_at_run(group: &mut Group, bytes: &[u8], answer: &Answer, track: &[u16]) {
     if answer.number != 1 {
         let what = || format!("k and m of case {}", hex(bytes));
@@ -131,6 +131,20 @@ fn look_at_run(group: &mut Group, bytes: &[u8], answer: &Answer, track: &[u16]) 
     let mut scratch = vec![0; asked.scratch + BEYOND];
     let theirs = library::judge(&asked, &mut scratch[..asked.scratch]).answer;
     group.compare(what, (1, 0), (theirs.number, theirs.place));
+    let run = &track[..run_length(answer, track.len())];
+    group.compare(what, None, shorter(run, answer.stem as usize));
+}
+
+/// A shorter stem or loop of the same entries with the same endless path, if there is one: the stem ends as the loop does, or the
+/// loop goes round a shorter one some whole number of times.
+fn shorter(run: &[u16], stem: usize) -> Option<(usize, usize)> {
+    let (before, around) = run.split_at_checked(stem)?;
+    let length = around.len();
+    if !before.is_empty() && before.last() == around.last() {
+        return Some((stem - 1, length));
+    }
+    let repeats = |part: &usize| length % part == 0 && around[..length - part] == around[*part..];
+    (1..length).find(repeats).map(|part| (stem, part))
 }
 
 /// The lent memory, with some entries beyond.
