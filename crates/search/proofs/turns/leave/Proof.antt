@@ -14,12 +14,17 @@ use Rattle.search.proofs.turns.leave.Tie as tie
 waiting-requires : tie.Need-waiting-requires
 waiting-requires c κs = search needs
 
--- the place at hand waits for a promise where it is not marked, and for none any more where it is
+-- from where it is known whether the place is marked
+abbrev start : tie.After-is-marked → tie.Start
+start m = m .before .before .before .before
+
 abbrev code : tie.After-is-marked → ℕ
-code c = c .before .before .before .before .args .code
+code m = start m .args .code
 
 abbrev top : tie.After-is-marked → ℕ
-top c = c .before .before .before .before .args .sizes .top
+top m = start m .args .sizes .top
+
+-- it waits for a promise where it is not marked, and for none any more where it is
 
 waits : (c : tie.Then1) → code (c .before) % 8 < top (c .before)
 waits c =
@@ -35,14 +40,17 @@ is-marked-requires : tie.Need-is-marked-requires
 is-marked-requires c κs = search needs
 
 paint-requires : tie.Need-paint-requires
-paint-requires c κs = top-paints (c .before .before .before .before .before .before .pre .0) (c .before .before .before .before .before .before .pre .3)
+paint-requires c κs =
+    let p = start (c .before .before) .pre in
+    top-paints (p .0) (p .3)
 
 same-length : tie.Need-same-length
 same-length c = search needs
 
 returns : tie.Need-returns
 returns c =
-    let s = c .before .before .before .before .before .before .before .before .before in
+    let then = c .before .before .before .before in
+    let s = start (then .before) in
     let ws = s .args .workspace .now in
     let on = c .before .before .paint .ensures in (
       subst (λ (l : List ℕ). Kept (s .args .sizes .places) ws l) (sym on) (paint-kept (s .pre .0) (s .pre .3) 1),
@@ -50,14 +58,14 @@ returns c =
         λ e. back-deeper e,
         (
           λ x r d l e.
-              subst (λ (k : List ℕ). OuterOn x r ws (suc d) k d) (sym on) (left-blue x l (waits (c .before .before .before .before))),
+              subst (λ (k : List ℕ). OuterOn x r ws (suc d) k d) (sym on) (left-blue x l (waits then)),
           λ x r d l i a e. back-met i a e,
         ),
       ),
     )
 
 inner-search-requires : tie.Need-inner-search-requires
-inner-search-requires c κs = (c .before .before .before .before .before .before .pre, waits-no-more (c .before))
+inner-search-requires c κs = (start (c .before .before) .pre, waits-no-more (c .before))
 
 enum-known-inner : tie.Need-enum-known-inner
 enum-known-inner c = search needs
@@ -66,7 +74,10 @@ enum-told : tie.Need-enum-told
 enum-told c = search needs
 
 paint-requires-2 : tie.Need-paint-requires-2
-paint-requires-2 c κs = red-paints (c .before .before .before .before .before .before .before .before .before .before .before .before .pre .0) (c .before .before .before .before .before .before .before .before .before .before .before .before .pre .3) (c .before .before .before .before .before .inner-search .ensures .0)
+paint-requires-2 c κs =
+    let searched = c .before .before .before .before .before in
+    let p = start (searched .before .before .before) .pre in
+    red-paints (p .0) (p .3) (searched .inner-search .ensures .0)
 
 enum-told-2 : tie.Need-enum-told-2
 enum-told-2 c = search needs
@@ -84,9 +95,10 @@ same-length-3 c = search needs
 
 returns-3 : tie.Need-returns-3
 returns-3 c =
-    let s = c .before .before .before .before .before .before .before .before .before .before .before .before .before .before .before in
+    let searched = c .before .before .before .before .before .before .before .before in
+    let s = start (searched .before .before .before) in
     let ws = s .args .workspace .now in
-    let on = c .before .before .before .before .before .before .before .before .inner-search .ensures in
+    let on = searched .inner-search .ensures in
     let last = c .before .before .paint2 .ensures in (
       subst (λ (l : List ℕ). Kept (s .args .sizes .places) ws l) (sym last) (red-kept (s .pre .0) (s .pre .3) (on .0)),
       (

@@ -1,5 +1,5 @@
--- `search::turns::state_roots` meets its contract. The loop's invariant: the roots of the state with lower bits are passed. The measure is the bits that are
--- left. Assumes nothing.
+-- `search::turns::state_roots` meets its contract. The loop's invariant: the roots of the state with lower bits are passed. The measure is
+-- the bits that are left. Assumes nothing.
 use Prim.Native.Nat.{ℕ, _-_, _≤_, _<_}
 use native.Mathlib.Omega.{arith}
 use mathlib.Core.Path.{_≡_, sym, ap, _∙_, subst}
@@ -25,6 +25,29 @@ Inv-loop states edges last rows lanes starts sizes workspace₀ s guesses b₀ w
 abbrev μ-loop : tie.MeasureT-loop
 μ-loop states edges last rows lanes starts sizes workspace₀ s guesses b₀ workspace b = sizes .guesses - b
 
+-- ---- by names: from a turn's root test
+
+abbrev Tested : Type 0
+Tested = tie.After-is-initial Inv-loop μ-loop
+
+abbrev head : Tested → tie.At-loop Inv-loop μ-loop
+head i = i .before .before
+
+abbrev start : Tested → tie.Start Inv-loop μ-loop
+start i = head i .before .before .before .before
+
+abbrev Roots : Tested → Type 0
+Roots i = Rooting (start i .args .states .now) (start i .args .rows .now) (start i .args .last) (start i .args .sizes .guesses)
+
+-- whether the place is initial, in whatever setting
+is-root : (i : Tested) (p : Parts) (q : Roots i) → q .parts ≡ p → start i .args .s < p .states
+    → i .is-initial .result ≡ rootAt p (start i .args .sizes .guesses) (start i .args .s) (head i .loop .b)
+is-root i p q same state =
+    i .is-initial .ensures q (subst (λ (p : Parts). start i .args .s < p .states) (sym same) state)
+    ∙ ap (λ (p : Parts). rootAt p (start i .args .sizes .guesses) (start i .args .s) (head i .loop .b)) same
+
+-- ---- the needs
+
 loop-holds : tie.Need-loop-holds Inv-loop μ-loop
 loop-holds c = (omega arith, kept-same _ _, λ x q same o state. o)
 
@@ -35,24 +58,28 @@ is-initial-requires c κs =
 
 root-turn-requires : tie.Need-root-turn-requires Inv-loop μ-loop
 root-turn-requires c κs =
-    let s = c .before .before .before .before .before .before .before in
-    let p = s .pre in
-    ((p .0, c .before .before .before .loop .inv .2 (p .0) (p .1) (p .2) (p .3) (p .4), p .4, (c .before .is-initial .ensures (p .1) (subst (λ (p : Parts). s .args .s < p .states) (sym (p .2)) (p .4)) ∙ ap (λ (p : Parts). rootAt p (s .args .sizes .guesses) (s .args .s) (c .before .before .before .loop .b)) (p .2))), c .before .before .loop-test .taken)
+    let i = c .before in
+    let p = start i .pre in
+    ((p .0, head i .loop .inv .2 (p .0) (p .1) (p .2) (p .3) (p .4), p .4, is-root i _ (p .1) (p .2) (p .4)), i .before .loop-test .taken)
 
 enum-known-outer : tie.Need-enum-known-outer Inv-loop μ-loop
 enum-known-outer c = search needs
 
 same-length : tie.Need-same-length Inv-loop μ-loop
-same-length c = kept-on (c .before .before .before .before .before .before .before .before .before .loop .inv .1) (c .before .before .before .before .before .root-turn .ensures .0) .long
+same-length c =
+    let t = c .before .before .before .before .before in
+    kept-on (head (t .before .before) .loop .inv .1) (t .root-turn .ensures .0) .long
 
 returns : tie.Need-returns Inv-loop μ-loop
 returns c =
-    let s = c .before .before .before .before .before .before .before .before .before .before .before .before .before in (
-      kept-on (c .before .before .before .before .before .before .before .before .before .loop .inv .1) (c .before .before .before .before .before .root-turn .ensures .0),
+    let t = c .before .before .before .before .before in
+    let i = t .before .before in
+    let inv = head i .loop .inv in (
+      kept-on (inv .1) (t .root-turn .ensures .0),
       (
         λ x q same o state e. loop-nothing _ _ _ e,
-        λ x q same o state out i a e.
-            c .before .before .before .before .before .root-turn .ensures .1 .1 x (c .before .before .before .before .before .before .before .before .before .loop .inv .2 x q same o state) state (c .before .before .before .before .before .before .before .is-initial .ensures q (subst (λ (p : Parts). s .args .s < p .states) (sym same) state) ∙ ap (λ (p : Parts). rootAt p (s .args .sizes .guesses) (s .args .s) (c .before .before .before .before .before .before .before .before .before .loop .b)) same) out i a (c .before .outer .given .1 ∙ e),
+        λ x q same o state out n a e.
+            t .root-turn .ensures .1 .1 x (inv .2 x q same o state) state (is-root i _ q same state) out n a (c .before .outer .given .1 ∙ e),
       ),
     )
 
@@ -60,18 +87,22 @@ enum-told : tie.Need-enum-told Inv-loop μ-loop
 enum-told c = search needs
 
 add-b : tie.Need-add-b Inv-loop μ-loop
-add-b c = omega (arith, c .before .before .before .before .before .before .before .loop-test .taken, c .before .before .before .before .before .before .before .before .before .before .before .before)
+add-b c =
+    let i = c .before .before .before .before .before .before in
+    omega (arith, i .before .loop-test .taken, start i)
 
 loop-less : tie.Need-loop-less Inv-loop μ-loop
 loop-less c = omega (arith, c .before .before .before .before .before .before .before .loop-test .taken)
 
 loop-again : tie.Need-loop-again Inv-loop μ-loop
 loop-again c =
-    let s = c .before .before .before .before .before .before .before .before .before .before .before .before in (
-      omega (arith, c .before .before .before .before .before .before .before .loop-test .taken),
-      kept-on (c .before .before .before .before .before .before .before .before .loop .inv .1) (c .before .before .before .before .root-turn .ensures .0),
+    let t = c .before .before .before .before in
+    let i = t .before .before in
+    let inv = head i .loop .inv in (
+      omega (arith, i .before .loop-test .taken),
+      kept-on (inv .1) (t .root-turn .ensures .0),
       λ x q same o state.
-          c .before .before .before .before .root-turn .ensures .1 .0 x (c .before .before .before .before .before .before .before .before .loop .inv .2 x q same o state) state (c .before .before .before .before .before .before .is-initial .ensures q (subst (λ (p : Parts). s .args .s < p .states) (sym same) state) ∙ ap (λ (p : Parts). rootAt p (s .args .sizes .guesses) (s .args .s) (c .before .before .before .before .before .before .before .before .loop .b)) same) (c .enum-told .given .1),
+          t .root-turn .ensures .1 .0 x (inv .2 x q same o state) state (is-root i _ q same state) (c .enum-told .given .1),
     )
 
 same-length-2 : tie.Need-same-length-2 Inv-loop μ-loop
