@@ -24,6 +24,10 @@ Inv-loop states edges last rows lanes starts sizes workspace₀ count s₀ works
 abbrev μ-loop : tie.MeasureT-loop
 μ-loop states edges last rows lanes starts sizes workspace₀ count s₀ workspace s = length states / 3 - s
 
+-- a turn's own head
+abbrev head : tie.After-state-roots Inv-loop μ-loop → tie.At-loop Inv-loop μ-loop
+head t = t .before .before .before
+
 loop-holds : tie.Need-loop-holds Inv-loop μ-loop
 loop-holds c =
     let s = c .before .before .before in (
@@ -41,17 +45,22 @@ enum-known-outer : tie.Need-enum-known-outer Inv-loop μ-loop
 enum-known-outer c = search needs
 
 same-length : tie.Need-same-length Inv-loop μ-loop
-same-length c = kept-on (c .before .before .before .before .before .before .before .before .loop .inv .1) (c .before .before .before .before .before .state-roots .ensures .0) .long
+same-length c =
+    let t = c .before .before .before .before .before in
+    kept-on (head t .loop .inv .1) (t .state-roots .ensures .0) .long
 
 returns : tie.Need-returns Inv-loop μ-loop
-returns c = (
-  kept-on (c .before .before .before .before .before .before .before .before .loop .inv .1) (c .before .before .before .before .before .state-roots .ensures .0),
-  (
-    λ x q same o e. loop-nothing _ _ _ e,
-    λ x q same o out i a e.
-        c .before .before .before .before .before .state-roots .ensures .1 .1 x q same (c .before .before .before .before .before .before .before .before .loop .inv .2 x q same o) (omega (arith, c .before .before .before .before .before .before .before .loop-test .taken, rooting-count x q same)) out i a (c .before .outer .given .1 ∙ e),
-  ),
-)
+returns c =
+    let t = c .before .before .before .before .before in
+    let inv = head t .loop .inv in (
+      kept-on (inv .1) (t .state-roots .ensures .0),
+      (
+        λ x q same o e. loop-nothing _ _ _ e,
+        λ x q same o out i a e.
+            t .state-roots .ensures .1 .1 x q same (inv .2 x q same o)
+            (omega (arith, t .before .before .loop-test .taken, rooting-count x q same)) out i a (c .before .outer .given .1 ∙ e),
+      ),
+    )
 
 enum-told : tie.Need-enum-told Inv-loop μ-loop
 enum-told c = search needs
@@ -63,12 +72,15 @@ loop-less : tie.Need-loop-less Inv-loop μ-loop
 loop-less c = omega (arith, c .before .before .before .before .before .before .loop-test .taken)
 
 loop-again : tie.Need-loop-again Inv-loop μ-loop
-loop-again c = (
-  omega (arith, c .before .before .before .before .before .before .loop-test .taken),
-  kept-on (c .before .before .before .before .before .before .before .loop .inv .1) (c .before .before .before .before .state-roots .ensures .0),
-  λ x q same o.
-      c .before .before .before .before .state-roots .ensures .1 .0 x q same (c .before .before .before .before .before .before .before .loop .inv .2 x q same o) (omega (arith, c .before .before .before .before .before .before .loop-test .taken, rooting-count x q same)) (c .enum-told .given .1),
-)
+loop-again c =
+    let t = c .before .before .before .before in
+    let inv = head t .loop .inv in (
+      omega (arith, t .before .before .loop-test .taken),
+      kept-on (inv .1) (t .state-roots .ensures .0),
+      λ x q same o.
+          t .state-roots .ensures .1 .0 x q same (inv .2 x q same o)
+          (omega (arith, t .before .before .loop-test .taken, rooting-count x q same)) (c .enum-told .given .1),
+    )
 
 same-length-2 : tie.Need-same-length-2 Inv-loop μ-loop
 same-length-2 c = c .before .loop .inv .1 .long
