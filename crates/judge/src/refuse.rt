@@ -86,7 +86,8 @@ fn lowest_outside(track: &[u16], states: usize, count: usize) -> usize
 // The lowest entry with no edge to the one after it.
 fn lowest_gap(edges: &[u8], track: &[u16], k: usize, m: usize) -> usize
     requires { ⌜ (1 ≤ m) × (k + m ≤ length (now track)) ⌝ }
-    ensures { λ r. ⌜ r ≡ lowest (λ i. not (hasEdge (now (edges .entry)) (at (now (track .entry)) i) (at (now (track .entry)) (position k m (suc i))))) (k + m) ⌝ }
+    ensures { λ r. ⌜ r ≡ lowest (λ i. not (hasEdge (now (edges .entry)) (at (now (track .entry)) i)
+        (at (now (track .entry)) (position k m (suc i))))) (k + m) ⌝ }
 {
     let mut here = 0;
     while here < k + m {

@@ -13,7 +13,7 @@ ghost use Rattle.rule.proofs.Passes.{pass, seed as seedOf};
 ghost use Rattle.rule.proofs.Entries.{entries};
 ghost use Rattle.reading.specs.Parts.{nodeOf, nodeCount};
 ghost use Rattle.judge.specs.Node.{nodeIs};
-ghost use Rattle.scratch.proofs.Scratch.{width, nowIn, stayIn, at, Stored, added, Adding, Known, Labelled, labelsOf, Telling, Valued};
+ghost use Rattle.scratch.proofs.Scratch.{width, nowIn, stayIn, plainIn, at, Stored, added, AddedTo, Adding, Known, Labelled, labelsOf, Telling, Valued};
 use crate::run;
 use reading::parts;
 
@@ -58,7 +58,8 @@ fn clear(scratch: &mut [Entry], count: usize)
 // Operators 0 to 5 at one entry.
 fn plain_added(word: Entry, label: u16, node: Node, n: usize) -> Entry
     requires { ⌜ (node .operator < 6) × Known (nodeIs node) × (n < width) × (word < 2 ^ n) ⌝ }
-    ensures { λ r. ⌜ r ≡ added word n (plain (node .operator) (bitOf label (node .first)) (bitOf word (node .first)) (bitOf word (node .second))) ⌝ }
+    ensures { λ r. ⌜ r ≡ added word n (plain (node .operator) (bitOf label (node .first)) (bitOf word (node .first))
+        (bitOf word (node .second))) ⌝ }
 {
     let atom = truth(label as Entry, node.first);
     let bit = rule::plain_word(
@@ -81,7 +82,8 @@ fn add_plain(
     scratch: &mut [Entry],
 )
     requires { ⌜ (node .operator < 6) × Known (nodeIs node) × Adding n count (now scratch) × Labelled count (now states) (now track) ⌝ }
-    ensures { λ r. ⌜ Stored 0 count (λ i. added (at (now (scratch .entry)) i) n (plain (node .operator) (bitOf (labelsOf (now (states .entry)) (now (track .entry)) i) (node .first)) (bitOf (at (now (scratch .entry)) i) (node .first)) (bitOf (at (now (scratch .entry)) i) (node .second)))) (now (scratch .entry)) (now (scratch .exit)) ⌝ }
+    ensures { λ r. ⌜ AddedTo n count (plainIn (nodeIs node) (labelsOf (now (states .entry)) (now (track .entry))) (now (scratch .entry)))
+        (now (scratch .entry)) (now (scratch .exit)) ⌝ }
 {
     let mut i = 0;
     while i < count {
@@ -94,7 +96,8 @@ fn add_plain(
 // X is its operand at the next entry.
 fn add_next(node: Node, n: usize, k: usize, m: usize, scratch: &mut [Entry])
     requires { ⌜ Known (nodeIs node) × Adding n (k + m) (now scratch) × (1 ≤ m) × (node .first < n) ⌝ }
-    ensures { λ r. ⌜ Stored 0 (k + m) (λ i. added (at (now (scratch .entry)) i) n (bitOf (at (now (scratch .entry)) (position k m (suc i))) (node .first))) (now (scratch .entry)) (now (scratch .exit)) ⌝ }
+    ensures { λ r. ⌜ AddedTo n (k + m) (λ i. bitOf (at (now (scratch .entry)) (position k m (suc i))) (node .first))
+        (now (scratch .entry)) (now (scratch .exit)) ⌝ }
 {
     let mut i = 0;
     while i < k + m {
@@ -107,7 +110,8 @@ fn add_next(node: Node, n: usize, k: usize, m: usize, scratch: &mut [Entry])
 // Operators 7 to 11 at one entry, from their truth at the next.
 fn carried(word: Entry, node: Node, next: u16) -> u16
     requires { ⌜ (7 ≤ node .operator) × Known (nodeIs node) × (next ≤ 1) ⌝ }
-    ensures { λ r. ⌜ (r ≡ digit (nowOf (node .operator) (bitOf word (node .first)) (bitOf word (node .second)) || (stay (node .operator) (bitOf word (node .first)) (bitOf word (node .second)) && eqb next 1))) × (r ≤ 1) ⌝ }
+    ensures { λ r. ⌜ (r ≡ digit (nowOf (node .operator) (bitOf word (node .first)) (bitOf word (node .second))
+        || (stay (node .operator) (bitOf word (node .first)) (bitOf word (node .second)) && eqb next 1))) × (r ≤ 1) ⌝ }
 {
     let first = truth(word, node.first);
     let second = truth(word, node.second);
@@ -118,7 +122,8 @@ fn carried(word: Entry, node: Node, next: u16) -> u16
 // The first pass: over the loop from the last entry down, with the pole as the seed. It gives the truth at entry k.
 fn loop_seed(node: Node, k: usize, m: usize, scratch: &[Entry]) -> u16
     requires { ⌜ (7 ≤ node .operator) × Known (nodeIs node) × (k + m ≤ length (now scratch)) ⌝ }
-    ensures { λ r. ⌜ (r ≡ digit (seedOf (nowIn (nodeIs node) (now (scratch .entry))) (stayIn (nodeIs node) (now (scratch .entry))) (greatest (node .operator)) k m)) × (r ≤ 1) ⌝ }
+    ensures { λ r. ⌜ (r ≡ digit (seedOf (nowIn (nodeIs node) (now (scratch .entry))) (stayIn (nodeIs node) (now (scratch .entry)))
+        (greatest (node .operator)) k m)) × (r ≤ 1) ⌝ }
 {
     let mut next = rule::pole_word(node.operator, 1);
     let mut i = k + m;
@@ -132,7 +137,8 @@ fn loop_seed(node: Node, k: usize, m: usize, scratch: &[Entry]) -> u16
 // The second pass: over all entries from the last down, from the truth at entry k, which comes after the last.
 fn add_lasting(node: Node, n: usize, count: usize, seed: u16, scratch: &mut [Entry])
     requires { ⌜ (7 ≤ node .operator) × Known (nodeIs node) × Adding n count (now scratch) × (seed ≤ 1) ⌝ }
-    ensures { λ r. ⌜ Stored 0 count (λ i. added (at (now (scratch .entry)) i) n (pass (nowIn (nodeIs node) (now (scratch .entry))) (stayIn (nodeIs node) (now (scratch .entry))) (eqb seed 1) i (count - i))) (now (scratch .entry)) (now (scratch .exit)) ⌝ }
+    ensures { λ r. ⌜ AddedTo n count (λ i. pass (nowIn (nodeIs node) (now (scratch .entry))) (stayIn (nodeIs node) (now (scratch .entry)))
+        (eqb seed 1) i (count - i)) (now (scratch .entry)) (now (scratch .exit)) ⌝ }
 {
     let mut next = seed;
     let mut i = count;
@@ -165,8 +171,11 @@ fn add_node(
     n: usize,
     scratch: &mut [Entry],
 )
-    requires { ⌜ Telling (now states) (now nodes) (now track) k m (now scratch) × (n < nodeCount (now nodes)) × Valued (now states) (now nodes) (now track) k m n (now scratch) ⌝ }
-    ensures { λ r. ⌜ Stored 0 (k + m) (entries (nodeOf (now (nodes .entry))) (labelsOf (now (states .entry)) (now (track .entry))) k m (suc n)) (now (scratch .entry)) (now (scratch .exit)) ⌝ }
+    requires { ⌜ Telling (now states) (now nodes) (now track) k m (now scratch) × (n < nodeCount (now nodes))
+        × Valued (now states) (now nodes) (now track) k m n (now scratch) ⌝ }
+    ensures { λ r. ⌜ Stored 0 (k + m)
+        (entries (nodeOf (now (nodes .entry))) (labelsOf (now (states .entry)) (now (track .entry))) k m (suc n))
+        (now (scratch .entry)) (now (scratch .exit)) ⌝ }
 {
     let node = node_at(nodes, n);
     let operator = node.operator;
@@ -192,8 +201,11 @@ fn truths(
     n: usize,
     scratch: &mut [Entry],
 )
-    requires { ⌜ Telling (now states) (now nodes) (now track) k m (now scratch) × (n ≤ nodeCount (now nodes)) × ((i : ℕ) → i < k + m → at (now scratch) i ≡ 0) ⌝ }
-    ensures { λ r. ⌜ Stored 0 (k + m) (entries (nodeOf (now (nodes .entry))) (labelsOf (now (states .entry)) (now (track .entry))) k m n) (now (scratch .entry)) (now (scratch .exit)) ⌝ }
+    requires { ⌜ Telling (now states) (now nodes) (now track) k m (now scratch) × (n ≤ nodeCount (now nodes)) × ((i : ℕ) → i < k + m
+        → at (now scratch) i ≡ 0) ⌝ }
+    ensures { λ r. ⌜ Stored 0 (k + m)
+        (entries (nodeOf (now (nodes .entry))) (labelsOf (now (states .entry)) (now (track .entry))) k m n)
+        (now (scratch .entry)) (now (scratch .exit)) ⌝ }
 {
     if 0 < n {
         truths(states, nodes, track, k, m, n - 1, scratch);
@@ -211,7 +223,10 @@ pub fn rule_holds(
     scratch: &mut [Entry],
 ) -> bool
     requires { ⌜ Telling (now states) (now nodes) (now track) k m (now scratch) × (1 ≤ nodeCount (now nodes)) ⌝ }
-    ensures { λ r. ⌜ (r ≡ bitOf (entries (nodeOf (now (nodes .entry))) (labelsOf (now (states .entry)) (now (track .entry))) k m (nodeCount (now (nodes .entry))) 0) (nodeCount (now (nodes .entry)) - 1)) × (now (scratch .exit) ≡ replicate (k + m) 0 ++ drop (k + m) (now (scratch .entry))) ⌝ }
+    ensures { λ r. ⌜ (r ≡ bitOf
+        (entries (nodeOf (now (nodes .entry))) (labelsOf (now (states .entry)) (now (track .entry))) k m (nodeCount (now (nodes .entry))) 0)
+        (nodeCount (now (nodes .entry)) - 1))
+        × (now (scratch .exit) ≡ replicate (k + m) 0 ++ drop (k + m) (now (scratch .entry))) ⌝ }
 {
     let count = nodes.len() / 3;
     clear(scratch, k + m);

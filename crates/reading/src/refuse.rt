@@ -358,7 +358,13 @@ pub fn check_parts(
     node_list: &[u8],
 ) -> Check
     requires { ⌜ (3 * states ≤ length (now «state_list»)) × (atoms ≤ 16) ⌝ }
-    ensures { λ r. ⌜ r ≡ partsRefusal (record { states = states; atoms = atoms; stateList = now («state_list» .entry); edgeList = now («edge_list» .entry); nodeList = now («node_list» .entry) }) ⌝ }
+    ensures { λ r. ⌜ r ≡ partsRefusal (record {
+      states = states;
+      atoms = atoms;
+      stateList = now («state_list» .entry);
+      edgeList = now («edge_list» .entry);
+      nodeList = now («node_list» .entry);
+    }) ⌝ }
 {
     let by_states = check_states(state_list, states, atoms);
     if let Check::Refused(r) = by_states {

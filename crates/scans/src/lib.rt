@@ -2,13 +2,11 @@
 // first, plus the successor's bits.
 ghost use mathlib.Core.Path.{_≡_};
 ghost use Prim.Native.Nat.{ℕ, _+_, _-_, _*_, _/_, _%_, _≤_, _<_};
-ghost use lib.ListN.{length, getD, take};
+ghost use lib.ListN.{length, getD};
 ghost use mathlib.Core.Bool.{true};
 ghost use Rattle.bits.specs.Bits.{bit};
-ghost use Rattle.reading.specs.Parts.{places as placesOf};
-ghost use Rattle.graph.proofs.Machine.{Skips, Finds};
-ghost use Rattle.workspace.proofs.Setting.{Setting, Topped, topCode, topCursor, Coded, numberOf, cursorsOf};
-ghost use Rattle.workspace.proofs.Case.{graphOf};
+ghost use Rattle.workspace.proofs.Setting.{Setting, Topped, Coded};
+ghost use Rattle.workspace.proofs.TurnsIn.{ScanFinds, ScanSkips};
 ghost use Rattle.workspace.proofs.Scanning.{nextIn, cursorsIn, RowIn, narrowedIn, fittingIn, LowestSet, LowestUnder, indexIn, lineOf, Scannable, Passed, Stops};
 use lanes::CARRY;
 use lanes::FAILS;
@@ -129,7 +127,8 @@ fn scan_bits(
     next: usize,
     limit: u16,
 ) -> usize
-    requires { ⌜ (sizes .guesses ≤ 16) × (sizes .top ≤ 4) × (s < 64) × (b ≤ 16) × (next < 8) × ((j : ℕ) → j < 16 → bit fit j ≡ true → indexIn (sizes .guesses) (sizes .top) s next j < length (now workspace)) ⌝ }
+    requires { ⌜ (sizes .guesses ≤ 16) × (sizes .top ≤ 4) × (s < 64) × (b ≤ 16) × (next < 8) × ((j : ℕ) → j < 16 → bit fit j ≡ true
+        → indexIn (sizes .guesses) (sizes .top) s next j < length (now workspace)) ⌝ }
     ensures { λ r. ⌜ LowestUnder fit (λ (j : ℕ). getD (now (workspace .entry)) (indexIn (sizes .guesses) (sizes .top) s next j) 0) limit b r ⌝ }
 {
     let mut b2 = lowest_set(fit, b);
@@ -152,9 +151,14 @@ fn scan(
     cursor: usize,
     limit: u16,
 ) -> Found
-    requires { ⌜ Scannable (lineOf (now edges) (now lanes) (sizes .guesses) (sizes .ones) (sizes .top) (row .state) (row .bits) (row .next) (row .first)) (now workspace) (row .end) ⌝ }
-    ensures { λ r. ⌜ ((found code : ℕ) → r ≡ Found.At found code → Stops (lineOf (now (edges .entry)) (now (lanes .entry)) (sizes .guesses) (sizes .ones) (sizes .top) (row .state) (row .bits) (row .next) (row .first)) (now (workspace .entry)) limit (row .end) cursor found code) ⌝ }
-    ensures { λ r. ⌜ (r ≡ Found.Nothing → Passed (lineOf (now (edges .entry)) (now (lanes .entry)) (sizes .guesses) (sizes .ones) (sizes .top) (row .state) (row .bits) (row .next) (row .first)) (now (workspace .entry)) limit cursor (row .end)) ⌝ }
+    requires { ⌜ Scannable (lineOf (now edges) (now lanes) (sizes .guesses) (sizes .ones) (sizes .top) (row .state) (row .bits)
+        (row .next) (row .first)) (now workspace) (row .end) ⌝ }
+    ensures { λ r. ⌜ ((found code : ℕ) → r ≡ Found.At found code
+        → Stops (lineOf (now (edges .entry)) (now (lanes .entry)) (sizes .guesses) (sizes .ones) (sizes .top) (row .state) (row .bits)
+        (row .next) (row .first)) (now (workspace .entry)) limit (row .end) cursor found code) ⌝ }
+    ensures { λ r. ⌜ (r ≡ Found.Nothing
+        → Passed (lineOf (now (edges .entry)) (now (lanes .entry)) (sizes .guesses) (sizes .ones) (sizes .top) (row .state) (row .bits)
+        (row .next) (row .first)) (now (workspace .entry)) limit cursor (row .end)) ⌝ }
 {
     let first = row.first;
     let end = row.end;
@@ -186,9 +190,14 @@ pub fn scan_top(
     depth: usize,
     limit: u16,
 ) -> Found
-    requires { ⌜ ((c : Setting (now edges) (now lanes) (now starts) (sizes .guesses) (sizes .ones) (sizes .top) (sizes .places)) × Topped (c .parts) (now workspace) base depth) ⌝ }
-    ensures { λ r. ⌜ ((c : Setting (now (edges .entry)) (now (lanes .entry)) (now (starts .entry)) (sizes .guesses) (sizes .ones) (sizes .top) (sizes .places)) → Topped (c .parts) (now (workspace .entry)) base depth → (cursor code : ℕ) → r ≡ Found.At cursor code → Coded (c .parts) code × Finds (graphOf (c .parts) (c .admitted)) limit (take (placesOf (c .parts)) (now (workspace .entry))) (numberOf (c .parts) (topCode (now (workspace .entry)) base depth)) (topCursor (c .parts) (now (workspace .entry)) base depth) cursor (numberOf (c .parts) code)) ⌝ }
-    ensures { λ r. ⌜ ((c : Setting (now (edges .entry)) (now (lanes .entry)) (now (starts .entry)) (sizes .guesses) (sizes .ones) (sizes .top) (sizes .places)) → Topped (c .parts) (now (workspace .entry)) base depth → r ≡ Found.Nothing → Skips (graphOf (c .parts) (c .admitted)) limit (take (placesOf (c .parts)) (now (workspace .entry))) (numberOf (c .parts) (topCode (now (workspace .entry)) base depth)) (topCursor (c .parts) (now (workspace .entry)) base depth) (cursorsOf (c .parts))) ⌝ }
+    requires { ⌜ ((c : Setting (now edges) (now lanes) (now starts) (sizes .guesses) (sizes .ones) (sizes .top) (sizes .places))
+        × Topped (c .parts) (now workspace) base depth) ⌝ }
+    ensures { λ r. ⌜ ((c : Setting (now (edges .entry)) (now (lanes .entry)) (now (starts .entry)) (sizes .guesses) (sizes .ones)
+        (sizes .top) (sizes .places)) → Topped (c .parts) (now (workspace .entry)) base depth → (cursor code : ℕ) → r ≡ Found.At cursor code
+        → Coded (c .parts) code × ScanFinds c (now (workspace .entry)) base depth limit cursor code) ⌝ }
+    ensures { λ r. ⌜ ((c : Setting (now (edges .entry)) (now (lanes .entry)) (now (starts .entry)) (sizes .guesses) (sizes .ones)
+        (sizes .top) (sizes .places)) → Topped (c .parts) (now (workspace .entry)) base depth → r ≡ Found.Nothing
+        → ScanSkips c (now (workspace .entry)) base depth limit) ⌝ }
 {
     let code = places::wide(workspace[base + depth - 1]);
     let cursor = places::wide(workspace[base + sizes.places + depth - 1]);

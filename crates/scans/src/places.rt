@@ -99,7 +99,8 @@ pub fn is_initial(
     b: usize,
 ) -> bool
     requires { ⌜ ((c : Rooting (now states) (now rows) last (sizes .guesses)) × (s < c .parts .states)) ⌝ }
-    ensures { λ r. ⌜ ((c : Rooting (now (states .entry)) (now (rows .entry)) last (sizes .guesses)) → s < c .parts .states → r ≡ rootAt (c .parts) (sizes .guesses) s b) ⌝ }
+    ensures { λ r. ⌜ ((c : Rooting (now (states .entry)) (now (rows .entry)) last (sizes .guesses)) → s < c .parts .states
+        → r ≡ rootAt (c .parts) (sizes .guesses) s b) ⌝ }
 {
     if sizes.guesses <= b {
         return false;

@@ -5,7 +5,8 @@ use mathlib.Core.Bool.{Bool, cond}
 use mathlib.Core.List.{List}
 use lib.ListN.{length, getD}
 use Rattle.meaning.specs.Table.{Table, Node}
-use Rattle.meaning.specs.Laws.{Ordered}
+use Rattle.bits.specs.Bits.{bit}
+use Rattle.meaning.specs.Laws.{Ordered, plain}
 use Rattle.rule.proofs.Entries.{nowAt, stayAt, entries}
 use Rattle.reading.specs.Parts.{labelOf, initialOf, hasEdge, nodeOf, nodeCount}
 
@@ -23,6 +24,10 @@ nowIn x l = nowAt x (at l)
 
 abbrev pub stayIn : Node → List ℕ → ℕ → Bool
 stayIn x l = stayAt x (at l)
+
+-- and what a plain node computes there, with these labels
+abbrev pub plainIn : Node → (ℕ → ℕ) → List ℕ → ℕ → Bool
+plainIn x labels l i = plain (x .operator) (bit (labels i) (x .first)) (bit (at l i) (x .first)) (bit (at l i) (x .second))
 
 -- the states, the initial states and the edges of a table, from its lists
 abbrev pub tableFrom : List ℕ → List ℕ → Table
@@ -45,6 +50,10 @@ pub record Stored (lo hi : ℕ) (f : ℕ → ℕ) (before after : List ℕ) : Ty
 -- an entry with bit n added
 abbrev pub added : ℕ → ℕ → Bool → ℕ
 added entry n b = entry + cond b (2 ^ n) 0
+
+-- bit n, of these truth values, is added to the first `count` entries of a scratch, and all others are as they were
+abbrev pub AddedTo : (n count : ℕ) → (ℕ → Bool) → (before after : List ℕ) → Type 0
+AddedTo n count f before after = Stored 0 count (λ i. added (at before i) n (f i)) before after
 
 -- bit n is still to be added to the first `count` entries of a scratch
 pub record Adding (n count : ℕ) (scratch : List ℕ) : Type 0 where

@@ -1,11 +1,11 @@
 -- `search::turns::inner_turn` meets its contract: what the scan says of the inner top is one of the machine's turns. Assumes nothing.
 use Prim.Native.Nat.{ℕ, suc, _+_, _*_}
 use native.Mathlib.Omega.{arith}
-use mathlib.Core.Path.{_≡_, sym, ap, _∙_, subst}
+use mathlib.Core.Path.{sym, ap, _∙_, subst}
 use mathlib.Core.List.{List}
 use lib.ListN.{getD}
-use Rattle.graph.proofs.Machine.{cyan, red}
-use Rattle.workspace.proofs.Setting.{Setting, Coded, numberIn}
+use Rattle.graph.proofs.Machine.{red}
+use Rattle.workspace.proofs.Setting.{Setting, Coded}
 use Rattle.workspace.proofs.Views.{Kept, kept-same}
 use Rattle.workspace.proofs.ViewsIn.{number-below, InnerIn, MetIn, InnerOn}
 use Rattle.workspace.proofs.TurnsIn.{ScanFinds, number-asked}
