@@ -3,8 +3,10 @@
  * A case is a string of bytes (a state table and one rule). Each function reads the bytes it is handed, keeps no state of its
  * own, allocates nothing, and may be called with any bytes whatever: what is wrong with a case is said in the answer.
  *
- * An answer has a number and a place. Number 0 is success (holds, satisfies), 1 is violated; 10 to 32 refuse the case, in this order,
- * always at the lowest place, and what follows refuses what was lent with it:
+ * An answer has a number and a place. Number 0 is success (holds, satisfies), 1 is violated; 10 to 32 refuse the case, and what follows
+ * refuses what was lent with it. Fields are taken in order, and in each 10 (its head), 11, 12, 10 (its value); 13 comes right after
+ * field 01 and 14 after field 04. Then 20 over all states, 21 and 22 edge by edge, 23, 30 and 31 node by node, 32; always the lowest
+ * place. Then 40 and 41 for the search, 42 for the state list, and 50, 51, 52, 53, 54, 40 for the judge:
  *
  *   10  fewer than 3 bytes left for a field's head, or fewer than its length for its value    the field's offset
  *   11  the tag is not the expected one                                                       the field's offset

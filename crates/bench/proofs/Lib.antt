@@ -1,3 +1,4 @@
 pub mod Enough
 pub mod Fits
 pub mod Says
+pub mod Alike

@@ -1,5 +1,6 @@
 -- The operators as tables over their numbers: what a plain node computes, and the expansion laws of source document 004,
--- carried to all five of F, G, U, R and W. The product that is published states them; no promise on verdicts rests on them.
+-- carried to all five of F, G, U, R and W. The product that is published states them.
+-- Row 31 of the reading goes by `operands`; on the others no promise rests.
 use Prim.Native.Nat.{ℕ, _-_, _≤_, _<_}
 use mathlib.Core.Bool.{Bool, true, false, cond, not, _&&_, _||_}
 use mathlib.Core.List.{[], _∷_}

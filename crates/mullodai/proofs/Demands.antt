@@ -1,7 +1,7 @@
 -- The three demands, for a stranger. `StateOutcome`, `StatesOutcome`, `JudgeOutcome` and `SearchOutcome` (specs/Outcomes.antt) are, by
 -- name, the whole `ensures` of the four functions of include/mullodai.h, which require nothing. So each line below speaks of anything
 -- that a call can answer and leave behind, whatever bytes, lists and numbers it was handed. Assumes nothing.
-use Prim.Native.Nat.{ℕ, _+_, _*_, _≤_}
+use Prim.Native.Nat.{ℕ, _+_, _*_, _≤_, _<_}
 use mathlib.Core.Path.{_≡_}
 use mathlib.Core.List.{List, _++_}
 use mathlib.Core.Logic.{_↔_}
@@ -14,6 +14,8 @@ use Rattle.reading.specs.declared.StateRecord.{StateRecord}
 use Rattle.reading.specs.declared.CaseRefusal.{CaseRefusal}
 use Rattle.reading.specs.declared.Check.the-variants.{Passed, Refused}
 use Rattle.judge.specs.Refusals.{runRefusal}
+use Rattle.judge.specs.Judged.{runNumber, runPlace}
+use Rattle.judge.specs.declared.RunRefusal.{RunRefusal}
 use Rattle.judge.specs.declared.RunCheck.{RunCheck}
 use Rattle.mullodai.specs.Outcomes.{noRecord, answerAt, StateOutcome, StatesOutcome, JudgeOutcome, SearchOutcome}
 use Rattle.mullodai.specs.declared.StateAnswer.{StateAnswer}
@@ -64,7 +66,33 @@ module _ (bytes : List ℕ) (q : CaseRefusal) (refused : refusal bytes ≡ Refus
       → (r ≡ answerAt (numberOf q) (placeOf q)) × ((workspace′ ≡ workspace) × (track′ ≡ track))
   refused-search workspace track r workspace′ track′ o = search.case-refused bytes workspace track r workspace′ track′ o q refused
 
--- (What an entry refuses of its own, 42, 50 to 54, 40 and 41: OneState, StateList, Judge and Search, each with its buffers as lent.)
+-- Of a case that no row refuses, each entry refuses its own rows, 42, 50 to 54, 40 and 41, each with its place and with every lent buffer as
+-- it was lent; and nothing else.
+module _ (bytes : List ℕ) (read : refusal bytes ≡ Passed) where
+  pub own-state : (s : ℕ) (r : StateAnswer) → StateOutcome bytes s r
+      → (partsOf bytes .states ≤ s → (r .number ≡ 42) × (r .place ≡ partsOf bytes .states) × (r .state ≡ noRecord))
+      × (s < partsOf bytes .states → r .number ≡ 0)
+  own-state s r o = (state.state-lacking bytes s r o read, λ h. state.state-read bytes s r o read h .0)
+
+  pub own-states : (list : List StateRecord) (r : Answer) (after : List StateRecord) → StatesOutcome bytes list r after
+      → (length list < partsOf bytes .states → (r ≡ answerAt 42 (partsOf bytes .states)) × (after ≡ list))
+      × (partsOf bytes .states ≤ length list → r ≡ answerAt 0 (partsOf bytes .states))
+  own-states list r after o = (states.list-short bytes list r after o read, λ h. states.list-filled bytes list r after o read h .0)
+
+  -- (what is not refused is answered 0 or 1: `demand-2`, `demand-2-satisfies`)
+  pub own-judge : (track : List ℕ) (k m : ℕ) (scratch : List ℕ) (r : Answer) (after : List ℕ) → JudgeOutcome bytes track k m scratch r after
+      → (q : RunRefusal) → runRefusal (tableOf (partsOf bytes)) track k m (length scratch) ≡ RunCheck.Refused q
+      → (r ≡ answerAt (runNumber q) (runPlace q)) × (after ≡ scratch)
+  own-judge track k m scratch r after o = judge.run-refused bytes track k m scratch r after o read
+
+  -- (and 0 or 1 with room enough: `demand-3-holds`, `demand-3-violated`)
+  pub own-search : (workspace track : List ℕ) (r : Answer) (workspace′ track′ : List ℕ) → SearchOutcome bytes workspace track r workspace′ track′
+      → (length workspace < 6 * places (partsOf bytes)
+      → (r ≡ answerAt 40 (6 * places (partsOf bytes))) × ((workspace′ ≡ workspace) × (track′ ≡ track)))
+      × (6 * places (partsOf bytes) ≤ length workspace → length track < 2 * places (partsOf bytes)
+      → (r ≡ answerAt 41 (2 * places (partsOf bytes))) × ((workspace′ ≡ workspace) × (track′ ≡ track)))
+  own-search workspace track r workspace′ track′ o =
+      (search.workspace-short bytes workspace track r workspace′ track′ o read, search.track-short bytes workspace track r workspace′ track′ o read)
 
 -- ---- Demand 2: the judge says "violates" exactly when the run is one of the table's and the rule is false on its endless path.
 
