@@ -118,18 +118,18 @@ pub turn-rotates : (f : ℕ → ℕ) (k m : ℕ) → Rotates f k m m
 turn-rotates f k m j h l = ap f (sym (position-repeats k m j h ∙ position-in k m j l))
 
 -- the last entries of the stem are those p further on
-abbrev pub Backs : (ℕ → ℕ) → ℕ → ℕ → ℕ → Type 0
-Backs f s k p = (j : ℕ) → s ≤ j → j < k → f j ≡ f (j + p)
+abbrev pub StemEnds : (ℕ → ℕ) → ℕ → ℕ → ℕ → Type 0
+StemEnds f s k p = (j : ℕ) → s ≤ j → j < k → f j ≡ f (j + p)
 
 -- one more entry of the stem
-pub backs-more : (f : ℕ → ℕ) (s k p : ℕ) → 0 < s → f (s - 1) ≡ f (s + p - 1) → Backs f s k p → Backs f (s - 1) k p
-backs-more f s k p some here later j h l = go (ℕ-discrete j (s - 1))
+pub stem-ends-more : (f : ℕ → ℕ) (s k p : ℕ) → 0 < s → f (s - 1) ≡ f (s + p - 1) → StemEnds f s k p → StemEnds f (s - 1) k p
+stem-ends-more f s k p some here later j h l = go (ℕ-discrete j (s - 1))
   where
     go : Dec (j ≡ s - 1) → f j ≡ f (j + p)
     go (yes q) = ap f q ∙ (here ∙ ap f (let z : s + p - 1 ≡ j + p = omega arith in z))
     go (no q) = later j (omega arith) l
 
-pub folds : (f : ℕ → ℕ) (k m s p : ℕ) → 1 ≤ p → p ≤ m → s ≤ k → Rotates f k m p → Backs f s k p → Folds f k m s p
+pub folds : (f : ℕ → ℕ) (k m s p : ℕ) → 1 ≤ p → p ≤ m → s ≤ k → Rotates f k m p → StemEnds f s k p → Folds f k m s p
 folds f k m s p loops short low round behind = record { loops = loops; within = omega arith; repeats = λ i h. near i h (decLt i k) }
   where
     near : (i : ℕ) → s ≤ i → Dec (i < k) → along f k m (i + p) ≡ along f k m i

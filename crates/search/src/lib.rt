@@ -10,7 +10,7 @@ ghost use Rattle.reading.specs.Refusals.{partsOf, caseOf};
 ghost use Rattle.reading.specs.declared.Case.{Case};
 ghost use Rattle.workspace.proofs.Views.{Kept};
 ghost use Rattle.meaning.proofs.Folds.{Folds};
-ghost use Rattle.workspace.proofs.Tracks.{Stands, Lowest, runIn, Lies, Wrote};
+ghost use Rattle.workspace.proofs.Tracks.{Stands, Lowest, runIn, Stacked, Wrote};
 ghost use Rattle.search.specs.Outcome.{Searched, Searches, Decides, workspaceNeeds, trackNeeds, cleared};
 use reading::Case;
 use reading::CaseRefusal;
@@ -134,7 +134,7 @@ fn show(
     track: &mut [u16],
 ) -> SearchAnswer
     requires { ⌜ ((s : Stands (now workspace) places at) × (s .index < outer)) ⌝ }
-    requires { ⌜ (1 ≤ inner) × Lies (now workspace) places outer (outer + inner - 1) × (outer + inner ≤ length (now track) + 1)
+    requires { ⌜ (1 ≤ inner) × Stacked (now workspace) places outer (outer + inner - 1) × (outer + inner ≤ length (now track) + 1)
         × (outer + inner < 65536) ⌝ }
     ensures { λ r. ⌜ ((k : ℕ) × (stem : ℕ) × (repeat : ℕ) × (r ≡ SearchAnswer.Violated stem repeat)
         × Lowest (now (workspace .entry)) places at k

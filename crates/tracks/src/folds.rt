@@ -4,13 +4,13 @@ ghost use mathlib.Core.Path.{_≡_};
 ghost use mathlib.Core.Bool.{true};
 ghost use Prim.Native.Nat.{_+_, _*_, _≤_, _<_};
 ghost use Rattle.meaning.specs.Runs.{position};
-ghost use Rattle.meaning.proofs.Folds.{Rotates, Backs};
-ghost use Rattle.workspace.proofs.Tracks.{runIn, Lies};
+ghost use Rattle.meaning.proofs.Folds.{Rotates, StemEnds};
+ghost use Rattle.workspace.proofs.Tracks.{runIn, Stacked};
 use scans::places;
 
 // The state at index i of the run: the outer stack, `outer` places deep, and then the inner stack above its first place.
 pub fn state_at(workspace: &[u16], places: usize, outer: usize, i: usize) -> usize
-    requires { ⌜ Lies (now workspace) places outer (i + 1) ⌝ }
+    requires { ⌜ Stacked (now workspace) places outer (i + 1) ⌝ }
     ensures { λ r. ⌜ (r ≡ runIn (now (workspace .entry)) places outer i) × (r < 512) ⌝ }
 {
     if i < outer {
@@ -32,7 +32,7 @@ fn entry_at(k: usize, m: usize, i: usize) -> usize
 
 // Whether the loop of m states from k on is the same again p further round.
 fn comes_round(workspace: &[u16], places: usize, outer: usize, k: usize, m: usize, p: usize) -> bool
-    requires { ⌜ Lies (now workspace) places outer (k + m) × (1 ≤ m) × (p ≤ m) × (k + m < 65536) ⌝ }
+    requires { ⌜ Stacked (now workspace) places outer (k + m) × (1 ≤ m) × (p ≤ m) × (k + m < 65536) ⌝ }
     ensures { λ r. ⌜ (r ≡ true → Rotates (runIn (now (workspace .entry)) places outer) k m p) ⌝ }
 {
     let end = k + m;
@@ -49,7 +49,7 @@ fn comes_round(workspace: &[u16], places: usize, outer: usize, k: usize, m: usiz
 
 // The shortest loop that the loop of m states from k on goes round a whole number of times.
 pub fn fold_loop(workspace: &[u16], places: usize, outer: usize, k: usize, m: usize) -> usize
-    requires { ⌜ Lies (now workspace) places outer (k + m) × (1 ≤ m) × (k + m < 65536) ⌝ }
+    requires { ⌜ Stacked (now workspace) places outer (k + m) × (1 ≤ m) × (k + m < 65536) ⌝ }
     ensures { λ r. ⌜ (1 ≤ r) × (r ≤ m) × Rotates (runIn (now (workspace .entry)) places outer) k m r ⌝ }
 {
     let mut p = 1;
@@ -66,8 +66,8 @@ pub fn fold_loop(workspace: &[u16], places: usize, outer: usize, k: usize, m: us
 
 // How much of a stem of k states is left when its end, as far as it is that of the loop of p, goes into the loop.
 pub fn fold_stem(workspace: &[u16], places: usize, outer: usize, k: usize, p: usize) -> usize
-    requires { ⌜ Lies (now workspace) places outer (k + p) × (1 ≤ p) × (k + p < 65536) ⌝ }
-    ensures { λ r. ⌜ (r ≤ k) × Backs (runIn (now (workspace .entry)) places outer) r k p ⌝ }
+    requires { ⌜ Stacked (now workspace) places outer (k + p) × (1 ≤ p) × (k + p < 65536) ⌝ }
+    ensures { λ r. ⌜ (r ≤ k) × StemEnds (runIn (now (workspace .entry)) places outer) r k p ⌝ }
 {
     let mut stem = k;
     while 0 < stem {

@@ -3,7 +3,7 @@ ghost use mathlib.Core.Path.{_≡_};
 ghost use mathlib.Core.List.{_++_};
 ghost use Prim.Native.Nat.{_+_, _-_, _≤_, _<_};
 ghost use lib.ListN.{length, drop, replicate};
-ghost use Rattle.workspace.proofs.Tracks.{Stands, Lowest, Lies, Wrote};
+ghost use Rattle.workspace.proofs.Tracks.{Stands, Lowest, Stacked, Wrote};
 
 pub mod folds;
 
@@ -33,7 +33,7 @@ pub fn find(workspace: &[u16], base: usize, code: usize) -> usize
 
 // Writes the first n states of the run.
 pub fn write(workspace: &[u16], places: usize, outer: usize, n: usize, track: &mut [u16])
-    requires { ⌜ Lies (now workspace) places outer n × (n ≤ length (now track)) ⌝ }
+    requires { ⌜ Stacked (now workspace) places outer n × (n ≤ length (now track)) ⌝ }
     ensures { λ _. ⌜ Wrote (now (workspace .entry)) places outer n (now (track .entry)) (now (track .exit)) ⌝ }
 {
     let mut i = 0;

@@ -64,8 +64,8 @@ abbrev pub runIn : List ℕ → ℕ → ℕ → ℕ → ℕ
 runIn ws size outer i = cond (ltb i outer) (ws ! (size + i)) (ws ! (3 * size + 1 + (i - outer))) / 128
 
 -- n states of it lie there
-abbrev pub Lies : List ℕ → ℕ → ℕ → ℕ → Type 0
-Lies ws size outer n = (size + outer ≤ length ws) × (3 * size + 1 + n ≤ length ws + outer)
+abbrev pub Stacked : List ℕ → ℕ → ℕ → ℕ → Type 0
+Stacked ws size outer n = (size + outer ≤ length ws) × (3 * size + 1 + n ≤ length ws + outer)
 
 -- n states of it stand in the track, and the rest is as it was
 pub record Wrote (ws : List ℕ) (size outer n : ℕ) (track track′ : List ℕ) : Type 0 where
@@ -143,7 +143,7 @@ module _ {edges lanes starts : List ℕ} {guesses ones top size : ℕ} (x : Sett
       )
 
   -- the run lies on both stacks, and is no longer than they are together
-  pub met-room : (1 ≤ inner) × Lies ws size outer (outer + inner - 1) × (outer + inner ≤ 2 * size + 1)
+  pub met-room : (1 ≤ inner) × Stacked ws size outer (outer + inner - 1) × (outer + inner ≤ 2 * size + 1)
   met-room = (
     omega (arith, m .inner-is),
     (omega (arith, m .outer-is, outer-lies), omega (arith, m .outer-is, m .inner-is, inner-lies)),

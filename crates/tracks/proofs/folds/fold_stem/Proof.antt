@@ -3,13 +3,13 @@
 use Prim.Native.Nat.{_≤_}
 use native.Mathlib.Omega.{arith}
 use mathlib.Core.Path.{sym, _∙_}
-use Rattle.meaning.proofs.Folds.{Backs, backs-more}
+use Rattle.meaning.proofs.Folds.{StemEnds, stem-ends-more}
 use Rattle.workspace.proofs.Tracks.{runIn}
 use Rattle.tracks.proofs.folds.fold_stem.Statement.{statement}
 use Rattle.tracks.proofs.folds.fold_stem.Tie as tie
 
 abbrev Inv-loop : tie.InvT-loop
-Inv-loop workspace places outer k p stem₀ stem = (stem ≤ k) × Backs (runIn workspace places outer) stem k p
+Inv-loop workspace places outer k p stem₀ stem = (stem ≤ k) × StemEnds (runIn workspace places outer) stem k p
 
 abbrev μ-loop : tie.MeasureT-loop
 μ-loop workspace places outer k p stem₀ stem = stem
@@ -46,7 +46,7 @@ loop-again c =
     let s = c .before .before .before .before .before .before in
     let at = c .before .before .before .before .loop in (
       omega (arith, at .inv .0),
-      backs-more (runIn (s .args .workspace .now) (s .args .places) (s .args .outer)) (at .stem) (s .args .k) (s .args .p)
+      stem-ends-more (runIn (s .args .workspace .now) (s .args .places) (s .args .outer)) (at .stem) (s .args .k) (s .args .p)
           (c .before .before .before .loop-test .taken)
           (sym (c .before .before .state-at .ensures .0) ∙ (c .if1 .left ∙ c .before .state-at2 .ensures .0))
           (at .inv .1),
