@@ -99,6 +99,7 @@ module _ (f : ℕ → ℕ) where
 -- ---- how many colours are below a limit
 
 one_if : (b : Bool) → T b → ◌≡◌ {A = ℕ} (cond b 1 0) 1
+one_if false t = elim t [ ]
 one_if true t = refl
 
 none_if : (b : Bool) → (T b → ⊥) → ◌≡◌ {A = ℕ} (cond b 1 0) 0

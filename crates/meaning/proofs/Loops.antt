@@ -1,6 +1,6 @@
 -- Looping shapes: a stem of k and a loop of m, m at least 1. A run's endless path repeats with m from k on, and on such a shape
 -- k+m positions are window enough to see whether `now` is reached, and whether `stay` stays for ever. Assumes nothing.
-use Prim.Native.Nat.{ℕ, suc, ◌+◌, ◌-◌, ◌%◌, ◌≤◌, ◌<◌}
+use Prim.Native.Nat.{ℕ, zero, suc, ◌+◌, ◌-◌, ◌%◌, ◌≤◌, ◌<◌}
 use native.Mathlib.Omega.{arith}
 use native.Mathlib.Nat.{add-mod_right, mod-eq_of_lt}
 use native.Mathlib.Decide.{dec_lt}
@@ -52,6 +52,7 @@ pub by_lower : (P : ℕ → Type 0) → ((n : ℕ) → ((x : ℕ) → x < n → 
 by_lower P f n = go (suc n) n (omega arith)
   where
     go : (c n : ℕ) → n < c → P n
+    go zero n l = elim l [ ]
     go (suc c) n l = f n (λ x h. go c x (omega arith))
 
 module _ (now stay : ℕ → Bool) (k m : ℕ) (loop : 1 ≤ m) (now_repeats : Repeats now k m) (stay_repeats : Repeats stay k m) (i : ℕ) where

@@ -18,9 +18,9 @@ pub starts_one : (list : List ℕ) (s e : ℕ) → e < edge_count list → from_
 unfolding starts_none
 starts_one list s e h p = ap not (any_found _ _ e h (eq-eqb _ _ p))
 
-pub starts_none : (list : List ℕ) (s : ℕ) → ((e : ℕ) → e < edge_count list → eqb (from_of list e) s ≡ false) → starts_none list s ≡ true
+pub starts_none_lem : (list : List ℕ) (s : ℕ) → ((e : ℕ) → e < edge_count list → eqb (from_of list e) s ≡ false) → starts_none list s ≡ true
 unfolding starts_none
-starts_none list s h = ap not (any_none _ _ h)
+starts_none_lem list s h = ap not (any_none _ _ h)
 
 module _ (bad : ℕ → Bool) (n : ℕ) (row : ℕ → CaseRefusal) (r : ℕ) (found : r ≡ lowest bad n) where
   pub refused_at : r < n → Refused (row r) ≡ refuse_at bad n row

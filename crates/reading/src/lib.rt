@@ -1,5 +1,7 @@
 // A case is read: refused exactly as the table says, or admitted with its sizes. Above that, what the other layers ask of an
 // admitted case. Walks and accessors take a part as a slice.
+#![tactic(auto)]
+
 ghost use Rattle.std.specs.Prelude.{◌≡◌, ◌+◌, ◌*◌, ◌<◌, ◌/◌, length};
 ghost use Rattle.reading.specs.Refusals.{fields_refusal, parts_refusal, parts_of, shape_of, read_as, case_of};
 ghost use Rattle.reading.specs.Answers.{number_of, place_of, record_of, state_of};

@@ -1,5 +1,7 @@
 // The twelve operators on words of truth values: one at a time (ones = 1), or sixteen (ones = 65,535). Judge and search both use
 // these, so that the tables of `meaning` are written once in code.
+#![tactic(auto)]
+
 ghost use Rattle.std.specs.Prelude.{◌≤◌, ◌<◌};
 ghost use Rattle.bits.specs.Bits.{bit};
 ghost use Rattle.meaning.specs.Laws.{plain, now as now_of, stay, greatest};
