@@ -87,6 +87,7 @@ module _ (operator : ℕ) (node : ℕ → Node) where
 
   -- each such node has a number
   pub numbered : (n x : ℕ) → x < n → operator ≤ (node x).operator → Numbered n x (length (nodes_from operator node x))
+  numbered zero x l h = elim l [ ]
   numbered (suc n) x l h = go (eq-or-lt_of_le l) (λ k. numbered n x k h)
     where
       go : (suc x ≡ suc n) ⊎ (suc x < suc n) → (x < n → Numbered n x (rank x)) → Numbered (suc n) x (rank x)

@@ -25,6 +25,7 @@ module _ (table : Table) (node : ℕ → Node) (s b : ℕ) where
   -- what is added later changes nothing
   pub truths_at : (n x : ℕ) → x < n → get_or (truths table node n s b) x true ≡ truth table node x s b
   unfolding truths truth
+  truths_at zero x l = elim l [ ]
   truths_at (suc n) x l = go (eq-or-lt_of_le l) (truths_at n x)
     where
       go : (suc x ≡ suc n) ⊎ (suc x < suc n) → (x < n → get_or (truths table node n s b) x true ≡ truth table node x s b)

@@ -130,9 +130,9 @@ module _ (p : Parts) (a : Admitted p) where
   top_within = omega (arith, a.few_temporals, a.fewer_eventualities)
 
   -- the number of a place's code, from 2 to the power T and E
-  pub number_in : (guesses top code : ℕ) → guesses ≡ 2 ^ temporals p → top ≡ eventualities p → number_in guesses top code ≡ number_of p code
+  pub number_in_lem : (guesses top code : ℕ) → guesses ≡ 2 ^ temporals p → top ≡ eventualities p → number_in guesses top code ≡ number_of p code
   unfolding numbering Rattle.product.specs.Places.number_of
-  number_in guesses top code e f = rw (e, f, width_is p a, top_is p a)
+  number_in_lem guesses top code e f = rw (e, f, width_is p a, top_is p a)
 
   -- the code of a state, bits and a waiting number stands for the place that they are
   pub code_decoded : (s b w : ℕ) → b < 16 → w < 8 → decoded (code_of s b w) ≡ record { state = s; bits = b; waiting = w }

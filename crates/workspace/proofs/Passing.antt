@@ -91,15 +91,15 @@ module _ (l : Line) where
         fits_at_lem : fits_at l (c / 16 * 16 + j) ≡ bit fit j
         fits_at_lem = fits_is (c / 16 * 16 + j) edge_at ∙ ap (bit fit) bits_at
 
-        index_at : index_at l (c / 16 * 16 + j) ≡ index_in l.guesses l.top s l.next j
-        index_at = index_is (c / 16 * 16 + j) edge_at ∙ ap (index_in l.guesses l.top s l.next) bits_at
+        index_at_lem : index_at l (c / 16 * 16 + j) ≡ index_in l.guesses l.top s l.next j
+        index_at_lem = index_is (c / 16 * 16 + j) edge_at ∙ ap (index_in l.guesses l.top s l.next) bits_at
 
         low_at : c / 16 * 16 + j < end
         low_at = omega (arith, of.end_whole)
 
       pub turn_inside : (j : ℕ) → j < 16 → bit fit j ≡ true → index_in l.guesses l.top s l.next j < length ws
       turn_inside j h e =
-          subst (λ (i : ℕ). i < length ws) (index_at j h) (of.inside (c / 16 * 16 + j) (low_at j h) (fits_at_lem j h ∙ e))
+          subst (λ (i : ℕ). i < length ws) (index_at_lem j h) (of.inside (c / 16 * 16 + j) (low_at j h) (fits_at_lem j h ∙ e))
 
       module _ (past : Passed l ws limit cursor c) (r : ℕ) (u : LowestUnder fit (λ j. colour j) limit (c % 16) r) where
         pub turn_passed : (e : ℕ) → e ≤ c / 16 * 16 + r → e ≤ c / 16 * 16 + 16 → Passed l ws limit cursor e
@@ -118,6 +118,6 @@ module _ (l : Line) where
               low = low_at r h;
               fits = fits_at_lem r h ∙ u.set h;
               is = rw (same_edge c (c / 16 * 16 + r) (edge_at r h), bits_at r h, s-is);
-              under = rw (index_at r h) (u.under h);
+              under = rw (index_at_lem r h) (u.under h);
               before = turn_passed (c / 16 * 16 + r) (omega arith) (omega arith);
             }

@@ -17,8 +17,8 @@ module _ (place : ℕ → ℕ) (base depth : ℕ) (ws : List ℕ) (lies : base +
   pub stack_length : length (stack_at place base depth ws) ≡ depth
   stack_length = length-map (part base depth ws) place ∙ length_part base depth ws lies
 
-  pub stack_at : (i : ℕ) → i < depth → stack_at place base depth ws ! i ≡ place (ws ! (base + i))
-  stack_at i h =
+  pub stack_at_lem : (i : ℕ) → i < depth → stack_at place base depth ws ! i ≡ place (ws ! (base + i))
+  stack_at_lem i h =
       places_at place (part base depth ws) i (omega (arith, length_part base depth ws lies))
       ∙ ap place (part_at base depth ws i h)
 

@@ -24,7 +24,7 @@ use Rattle.workspace.proofs.Case.{coded_place}
 use Rattle.workspace.proofs.Bridges.{found_violates, nothing_holds}
 use Rattle.workspace.proofs.Views.{stack_at}
 use Rattle.workspace.proofs.ViewsIn.{graph_in, graph_is, number_is, number-once, OuterIn, MetIn}
-use Rattle.workspace.proofs.Stores.{stack_length, stack_at}
+use Rattle.workspace.proofs.Stores.{stack_length, stack_at_lem}
 use Rattle.workspace.proofs.Turns.{finds_top}
 
 -- ---- nothing is found
@@ -108,6 +108,7 @@ values_length f (suc n) = length-append (values f n) (f n ∷ []) ∙ omega (ari
 
 values_at : (f : ℕ → ℕ) (n i : ℕ) → i < n → values f n ! i ≡ f i
 unfolding values
+values_at f zero i h = elim h [ ]
 values_at f (suc n) i h = go (ℕ_discrete i n) (values_at f n i)
   where
     go : Dec (i ≡ n) → (i < n → values f n ! i ≡ f i) → (values f n ++ (f n ∷ [])) ! i ≡ f i
@@ -137,7 +138,7 @@ module _ {edges lanes starts : List ℕ} {guesses ones top size : ℕ} (x : Sett
           lies = omega (arith, outer_lies);
           is =
               number-once x (m.at.outer_coded on.index low) m.coded
-              (sym (stack_at (number_in guesses top) size (suc m.d) ws outer_lies on.index low) ∙ on.is);
+              (sym (stack_at_lem (number_in guesses top) size (suc m.d) ws outer_lies on.index low) ∙ on.is);
         },
         omega (arith, m.outer_is),
       )
@@ -165,7 +166,7 @@ module _ {edges lanes starts : List ℕ} {guesses ones top size : ℕ} (x : Sett
         (found m.at.inner (stack_length (number_in guesses top) (3 * size) (suc m.e) ws inner_lies)
         (finds_top (graph_in x) (number_in guesses top) (3 * size) m.e ws (omega (arith, m.at.lent, m.at.fits)) m.finds) k
         (omega (arith, below_outer, stack_length (number_in guesses top) size (suc m.d) ws outer_lies))
-        (stack_at (number_in guesses top) size (suc m.d) ws outer_lies k below_outer ∙ ap (number_in guesses top) low.here))
+        (stack_at_lem (number_in guesses top) size (suc m.d) ws outer_lies k below_outer ∙ ap (number_in guesses top) low.here))
 
     -- a state of the run is the state of the entry's place
     abbrev Tracked : ℕ → Type 0
@@ -179,7 +180,7 @@ module _ {edges lanes starts : List ℕ} {guesses ones top size : ℕ} (x : Sett
     tracked i h (yes l) =
         entry i (ws ! (size + i)) (m.at.outer_coded i l)
         (get_or-append (stack_at (number_in guesses top) size (suc m.d) ws) _ 0 i (omega (arith, stack_length (number_in guesses top) size (suc m.d) ws outer_lies))
-        ∙ stack_at (number_in guesses top) size (suc m.d) ws outer_lies i l)
+        ∙ stack_at_lem (number_in guesses top) size (suc m.d) ws outer_lies i l)
         (rw (lt-ltb i outer (omega (arith, m.outer_is))))
     tracked i h (no n) = go (i - suc m.d) (omega arith)
       where
@@ -191,7 +192,7 @@ module _ {edges lanes starts : List ℕ} {guesses ones top size : ℕ} (x : Sett
             ∙ get_or-append-add (stack_at (number_in guesses top) size (suc m.d) ws) (drop 1 (stack_at (number_in guesses top) (3 * size) (suc m.e) ws)) j 0
             ∙ get_or-drop 1 (stack_at (number_in guesses top) (3 * size) (suc m.e) ws) j 0
             ∙ ap (λ (k : ℕ). stack_at (number_in guesses top) (3 * size) (suc m.e) ws ! k) (let z : 1 + j ≡ suc j = omega arith in z)
-            ∙ stack_at (number_in guesses top) (3 * size) (suc m.e) ws inner_lies (suc j) l)
+            ∙ stack_at_lem (number_in guesses top) (3 * size) (suc m.e) ws inner_lies (suc j) l)
             (let after : 3 * size + 1 + (i - outer) ≡ 3 * size + suc j = omega (arith, m.outer_is) in
             rw (le-ltb i outer (omega (arith, m.outer_is)), after))
 

@@ -20,7 +20,7 @@ use Rattle.workspace.proofs.Stores
 
 module _ (g : Graph) (place : ℕ → ℕ) (base d : ℕ) (ws : List ℕ) (lies : base + g.P + suc d ≤ length ws) where
   pub top_is : stack_at place base (suc d) ws ! d ≡ place (ws ! (base + d))
-  top_is = Stores.stack_at place base (suc d) ws (omega arith) d (omega arith)
+  top_is = Stores.stack_at_lem place base (suc d) ws (omega arith) d (omega arith)
 
   pub cursor_is : cursors_at g base (suc d) ws ! d ≡ ws ! (base + g.P + d)
   cursor_is = part_at (base + g.P) (suc d) ws d (omega arith)

@@ -12,7 +12,7 @@ use Rattle.product.specs.Product.{place, marked, initial}
 use Rattle.graph.proofs.Graph.{◌!◌, Graph}
 use Rattle.graph.proofs.Parts.{part}
 use Rattle.workspace.proofs.Setting.{product_of, cand_of, cursors_of, number_of, number_in, Coded, Setting}
-use Rattle.workspace.proofs.Case.{graph_of, number_in, coded_below, code_injective}
+use Rattle.workspace.proofs.Case.{graph_of, number_in_lem, coded_below, code_injective}
 use Rattle.workspace.proofs.Views.{OuterAt, InnerAt, ExhaustedAt, MetAt, outer_fuel, inner_fuel}
 
 -- D, as the code's edges have it
@@ -54,7 +54,7 @@ module _ {edges lanes starts : List ℕ} {guesses ones top size : ℕ} (x : Sett
   }
 
   pub number_is : (code : ℕ) → number_in guesses top code ≡ number_of x.parts code
-  number_is code = number_in x.parts x.admitted guesses top code x.guesses_are x.top_is
+  number_is code = number_in_lem x.parts x.admitted guesses top code x.guesses_are x.top_is
 
   pub number-below : {code : ℕ} → Coded x.parts code → number_in guesses top code < size
   number-below {code} is = omega (arith, number_is code, x.size_is, coded_below x.parts x.admitted is)
