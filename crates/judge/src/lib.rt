@@ -1,5 +1,7 @@
 // The judge: whether a run that is given satisfies a case's rule. Refusals first, in the order of the table; then the truth of every
 // node at every entry of the run, in the scratch, a bit for each node; then the rule's bit at entry 0.
+#![tactic(auto)]
+
 ghost use Rattle.std.specs.Prelude.{◌≡◌};
 ghost use Rattle.reading.specs.Refusals.{case_of};
 ghost use Rattle.reading.specs.declared.Case.{Case};
@@ -12,7 +14,7 @@ mod run;
 pub mod truths;
 
 // What refuses a run: rows 50 to 54 and 40, with the place that the row gives.
-#[derive(Drop)]
+#[derive(Clone, Copy)]
 pub enum RunRefusal {
     NoLoop,
     TooLong(usize),
@@ -23,14 +25,14 @@ pub enum RunRefusal {
 }
 
 // What the rows on runs say.
-#[derive(Drop)]
+#[derive(Clone, Copy)]
 pub enum RunCheck {
     Passed,
     Refused(RunRefusal),
 }
 
 // The judge's answer.
-#[derive(Drop)]
+#[derive(Clone, Copy)]
 pub enum Answer {
     CaseRefused(CaseRefusal),
     RunRefused(RunRefusal),

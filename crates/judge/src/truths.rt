@@ -17,7 +17,7 @@ use reading::parts;
 pub type Entry = u32;
 
 // A node of the rule.
-#[derive(Drop)]
+#[derive(Clone, Copy)]
 pub struct Node {
     pub operator: usize,
     pub first: usize,

@@ -2,6 +2,8 @@
 // n * 64 + s. `lanes` has sixteen words for each state s, from s * 16 on: NEED + t, whether the bit of temporal node number t must
 // be carried on by the next place; CARRY + t, what it is carried on by; MET + e, whether promise e is met; and FAILS, whether
 // nothing follows, since some bit that is not carried on is not what it has to be at once.
+#![tactic(auto)]
+
 ghost use Rattle.std.specs.Prelude.{◌≡◌, Bool, cond, not, ◌||◌, ℕ, suc, ◌+◌, ◌*◌, ◌≤◌, ◌<◌, length, get_or, set};
 ghost use Rattle.bits.specs.Bits.{bit};
 ghost use Rattle.meaning.specs.Table.{Table, Node};
@@ -27,7 +29,7 @@ pub const MET: usize = 8;
 pub const FAILS: usize = 12;
 
 // How many temporal nodes and how many promises there are among some nodes.
-#[derive(Drop)]
+#[derive(Clone, Copy)]
 pub struct Counts {
     pub temporals: usize,
     pub promises: usize,
@@ -171,7 +173,7 @@ fn met_lane(operator: usize, v: u16, at_once: u16, stay: u16) -> u16
 }
 
 // What node n adds to the lanes of a state.
-#[derive(Drop)]
+#[derive(Clone, Copy)]
 struct Words {
     need: u16,
     carry: u16,

@@ -10,7 +10,7 @@ use search::SearchAnswer;
 
 // One state of a case: the number of the table, 0 on success; the place; and the record, all 0 on a refusal.
 #[repr(C)]
-#[derive(Drop)]
+#[derive(Clone, Copy)]
 pub struct StateAnswer {
     pub number: u64,
     pub place: u64,
@@ -52,7 +52,7 @@ fn no_state(number: usize, place: usize) -> StateAnswer
 // The answer of an entry: the number of the table, its place, and the lengths k and m of a run's stem and loop, which are 0 where
 // there is no run. (C's field `loop` is `repeat` here, since `loop` is a word of the language.)
 #[repr(C)]
-#[derive(Drop)]
+#[derive(Clone, Copy)]
 pub struct Answer {
     pub number: u64,
     pub place: u64,

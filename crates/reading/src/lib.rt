@@ -12,7 +12,7 @@ pub mod parts;
 pub mod refuse;
 
 // A refusal, one variant for each row 10 to 32, with the place that the row gives.
-#[derive(Drop)]
+#[derive(Clone, Copy)]
 pub enum CaseRefusal {
     Short(usize),
     Tag(usize),
@@ -29,14 +29,14 @@ pub enum CaseRefusal {
 }
 
 // What a row, or several in their order, say of a case.
-#[derive(Drop)]
+#[derive(Clone, Copy)]
 pub enum Check {
     Passed,
     Refused(CaseRefusal),
 }
 
 // The sizes of an admitted case: S, A, the numbers of edges and of nodes, T and E.
-#[derive(Drop)]
+#[derive(Clone, Copy)]
 pub struct Shape {
     pub states: usize,
     pub atoms: usize,
@@ -47,7 +47,7 @@ pub struct Shape {
 }
 
 // What reading a case gives.
-#[derive(Drop)]
+#[derive(Clone, Copy)]
 pub enum Case {
     Refused(CaseRefusal),
     Admitted(Shape),
@@ -55,14 +55,14 @@ pub enum Case {
 
 // A state's label and its initial mark, 0 or 1.
 #[repr(C)]
-#[derive(Drop)]
+#[derive(Clone, Copy)]
 pub struct StateRecord {
     pub label: u16,
     pub initial: u8,
 }
 
 // One state of a case: the case's refusal, S where there is no such state, or the record.
-#[derive(Drop)]
+#[derive(Clone, Copy)]
 pub enum StateAnswer {
     Refused(CaseRefusal),
     NoState(usize),

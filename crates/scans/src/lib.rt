@@ -14,14 +14,14 @@ pub mod places;
 use places::Sizes;
 
 // What a scan finds: the cursor and the place there, or nothing.
-#[derive(Drop)]
+#[derive(Clone, Copy)]
 pub enum Found {
     At { cursor: usize, code: usize },
     Nothing,
 }
 
 // What a scan goes by: the place's state and bits, its successors' waiting number, its first edge, and where its cursors end.
-#[derive(Drop)]
+#[derive(Clone, Copy)]
 pub struct Row {
     pub state: usize,
     pub bits: usize,

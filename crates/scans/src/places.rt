@@ -7,7 +7,7 @@ ghost use Rattle.workspace.proofs.Roots.{Rooting, root_at};
 use reading::parts;
 
 // What the numbering needs: 2 to the power T, the lane of as many ones, E, and P.
-#[derive(Drop)]
+#[derive(Clone, Copy)]
 pub struct Sizes {
     pub guesses: usize,
     pub ones: u16,

@@ -16,7 +16,7 @@ use scans::places::Sizes;
 pub mod turns;
 
 // The search's answer: the case's refusal; the entries that the workspace or the track needs; holds; or violated, with k and m.
-#[derive(Drop)]
+#[derive(Clone, Copy)]
 pub enum SearchAnswer {
     Refused(CaseRefusal),
     Workspace(usize),

@@ -21,7 +21,7 @@ pub const CYAN: u16 = 2;
 pub const RED: u16 = 3;
 
 // What a turn came to: a place was pushed; the top was left; or the inner search, this deep, met a place of the outer stack again.
-#[derive(Drop)]
+#[derive(Clone, Copy)]
 pub enum Turn {
     Deeper,
     Back,
@@ -212,7 +212,7 @@ fn outer_turn(
 }
 
 // What a search from a root, or from all roots, comes to: nothing; or how deep the stacks are, and the place met again.
-#[derive(Drop)]
+#[derive(Clone, Copy)]
 pub enum Hit {
     Nothing,
     Loop {

@@ -46,6 +46,8 @@ printed_within {text} {before} {after} {filled} p = omega (arith, simp length-ap
 -- steps beyond the number change nothing
 steps_enough : (f g n : ℕ) → n < f → n < g → digits_in f n ≡ digits_in g n
 unfolding digits_in
+steps_enough zero g n p q = elim p [ ]
+steps_enough (suc f) zero n p q = elim q [ ]
 steps_enough (suc f) (suc g) n p q = go (dec_lt n 10) (λ h. steps_enough f g (n / 10) (omega arith) (omega arith))
   where
     go : Dec (n < 10) → (10 ≤ n → digits_in f (n / 10) ≡ digits_in g (n / 10)) → digits_in (suc f) n ≡ digits_in (suc g) n

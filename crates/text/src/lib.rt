@@ -1,4 +1,6 @@
 // The verdict as text, byte for byte as the program prints it, in a lent array that the longest text fills.
+#![tactic(auto)]
+
 ghost use Rattle.std.specs.Prelude.{◌≡◌, ◌∷◌, [], ◌+◌, ◌≤◌, ◌<◌, length};
 ghost use Rattle.text.specs.Text.{digits, states_text, refused_text, violated_text, verdict_text, Written, Printed, Shown};
 
