@@ -42,8 +42,8 @@ fn with_bit(word: Entry, n: usize, bit: u16) -> Entry
 
 // Sets the first `count` entries to 0.
 fn clear(scratch: &mut [Entry], count: usize)
-    requires { count ≤ length (now scratch) }
-    ensures { now scratch.exit ≡ replicate count 0 ++ drop count (now scratch.entry) }
+    requires { count ≤ length scratch.old }
+    ensures { scratch.new ≡ replicate count 0 ++ drop count scratch.old }
 {
     let mut entry = 0;
     while entry < count {
@@ -78,9 +78,9 @@ fn add_plain(
     count: usize,
     scratch: &mut [Entry],
 )
-    requires { (node.operator < 6) × Known (node_is node) × Adding n count (now scratch) × Labelled count (now states) (now track) }
-    ensures { AddedTo n count (plain_in (node_is node) (labels_of (now states.entry) (now track.entry)) (now scratch.entry))
-        (now scratch.entry) (now scratch.exit) }
+    requires { (node.operator < 6) × Known (node_is node) × Adding n count scratch.old × Labelled count states.now track.now }
+    ensures { AddedTo n count (plain_in (node_is node) (labels_of states.now track.now) scratch.old)
+        scratch.old scratch.new }
 {
     let mut i = 0;
     while i < count {
@@ -92,9 +92,9 @@ fn add_plain(
 
 // X is its operand at the next entry.
 fn add_next(node: Node, n: usize, k: usize, m: usize, scratch: &mut [Entry])
-    requires { Known (node_is node) × Adding n (k + m) (now scratch) × (1 ≤ m) × (node.first < n) }
-    ensures { AddedTo n (k + m) (λ i. bit_of (at (now scratch.entry) (position k m (suc i))) node.first)
-        (now scratch.entry) (now scratch.exit) }
+    requires { Known (node_is node) × Adding n (k + m) scratch.old × (1 ≤ m) × (node.first < n) }
+    ensures { AddedTo n (k + m) (λ i. bit_of (at scratch.old (position k m (suc i))) node.first)
+        scratch.old scratch.new }
 {
     let mut i = 0;
     while i < k + m {
@@ -118,8 +118,8 @@ fn carried(word: Entry, node: Node, next: u16) -> u16
 
 // The first pass: over the loop from the last entry down, with the pole as the seed. It gives the truth at entry k.
 fn loop_seed(node: Node, k: usize, m: usize, scratch: &[Entry]) -> u16
-    requires { (7 ≤ node.operator) × Known (node_is node) × (k + m ≤ length (now scratch)) }
-    ensures { (result ≡ digit (seed_of (now_in (node_is node) (now scratch.entry)) (stay_in (node_is node) (now scratch.entry))
+    requires { (7 ≤ node.operator) × Known (node_is node) × (k + m ≤ length scratch.now) }
+    ensures { (result ≡ digit (seed_of (now_in (node_is node) scratch.now) (stay_in (node_is node) scratch.now)
         (greatest node.operator) k m)) × (result ≤ 1) }
 {
     let mut next = rule::pole_word(node.operator, 1);
@@ -133,9 +133,9 @@ fn loop_seed(node: Node, k: usize, m: usize, scratch: &[Entry]) -> u16
 
 // The second pass: over all entries from the last down, from the truth at entry k, which comes after the last.
 fn add_lasting(node: Node, n: usize, count: usize, seed: u16, scratch: &mut [Entry])
-    requires { (7 ≤ node.operator) × Known (node_is node) × Adding n count (now scratch) × (seed ≤ 1) }
-    ensures { AddedTo n count (λ i. pass (now_in (node_is node) (now scratch.entry)) (stay_in (node_is node) (now scratch.entry))
-        (eqb seed 1) i (count - i)) (now scratch.entry) (now scratch.exit) }
+    requires { (7 ≤ node.operator) × Known (node_is node) × Adding n count scratch.old × (seed ≤ 1) }
+    ensures { AddedTo n count (λ i. pass (now_in (node_is node) scratch.old) (stay_in (node_is node) scratch.old)
+        (eqb seed 1) i (count - i)) scratch.old scratch.new }
 {
     let mut next = seed;
     let mut i = count;
@@ -148,8 +148,8 @@ fn add_lasting(node: Node, n: usize, count: usize, seed: u16, scratch: &mut [Ent
 
 // Node n.
 fn node_at(nodes: &[u8], n: usize) -> Node
-    requires { 3 * n + 2 < length (now nodes) }
-    ensures { node_is result ≡ node_of (now nodes.entry) n }
+    requires { 3 * n + 2 < length nodes.now }
+    ensures { node_is result ≡ node_of nodes.now n }
 {
     Node {
         operator: parts::operator(nodes, n),
@@ -168,11 +168,11 @@ fn add_node(
     n: usize,
     scratch: &mut [Entry],
 )
-    requires { Telling (now states) (now nodes) (now track) k m (now scratch) × (n < node_count (now nodes))
-        × Valued (now states) (now nodes) (now track) k m n (now scratch) }
+    requires { Telling states.now nodes.now track.now k m scratch.old × (n < node_count nodes.now)
+        × Valued states.now nodes.now track.now k m n scratch.old }
     ensures { Stored 0 (k + m)
-        (entries (node_of (now nodes.entry)) (labels_of (now states.entry) (now track.entry)) k m (suc n))
-        (now scratch.entry) (now scratch.exit) }
+        (entries (node_of nodes.now) (labels_of states.now track.now) k m (suc n))
+        scratch.old scratch.new }
 {
     let node = node_at(nodes, n);
     let operator = node.operator;
@@ -198,11 +198,11 @@ fn truths(
     n: usize,
     scratch: &mut [Entry],
 )
-    requires { Telling (now states) (now nodes) (now track) k m (now scratch) × (n ≤ node_count (now nodes)) × ((i : ℕ) → i < k + m
-        → at (now scratch) i ≡ 0) }
+    requires { Telling states.now nodes.now track.now k m scratch.old × (n ≤ node_count nodes.now) × ((i : ℕ) → i < k + m
+        → at scratch.old i ≡ 0) }
     ensures { Stored 0 (k + m)
-        (entries (node_of (now nodes.entry)) (labels_of (now states.entry) (now track.entry)) k m n)
-        (now scratch.entry) (now scratch.exit) }
+        (entries (node_of nodes.now) (labels_of states.now track.now) k m n)
+        scratch.old scratch.new }
 {
     if 0 < n {
         truths(states, nodes, track, k, m, n - 1, scratch);
@@ -219,11 +219,11 @@ pub fn rule_holds(
     m: usize,
     scratch: &mut [Entry],
 ) -> bool
-    requires { Telling (now states) (now nodes) (now track) k m (now scratch) × (1 ≤ node_count (now nodes)) }
+    requires { Telling states.now nodes.now track.now k m scratch.old × (1 ≤ node_count nodes.now) }
     ensures { (result ≡ bit_of
-        (entries (node_of (now nodes.entry)) (labels_of (now states.entry) (now track.entry)) k m (node_count (now nodes.entry)) 0)
-        (node_count (now nodes.entry) - 1))
-        × (now scratch.exit ≡ replicate (k + m) 0 ++ drop (k + m) (now scratch.entry)) }
+        (entries (node_of nodes.now) (labels_of states.now track.now) k m (node_count nodes.now) 0)
+        (node_count nodes.now - 1))
+        × (scratch.new ≡ replicate (k + m) 0 ++ drop (k + m) scratch.old) }
 {
     let count = nodes.len() / 3;
     clear(scratch, k + m);
