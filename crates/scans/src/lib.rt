@@ -1,5 +1,7 @@
 // Scans: the next successor of a place whose colour is below a limit. A cursor is 16 times the edge, counted from the state's
 // first, plus the successor's bits.
+#![tactic(auto)]
+
 ghost use Rattle.std.specs.Prelude.{◌≡◌, ℕ, ◌+◌, ◌-◌, ◌*◌, ◌/◌, ◌%◌, ◌≤◌, ◌<◌, length, get_or, true};
 ghost use Rattle.bits.specs.Bits.{bit};
 ghost use Rattle.workspace.proofs.Setting.{Setting, Topped, Coded};
@@ -149,10 +151,10 @@ fn scan(
 ) -> Found
     requires { Scannable (line_of edges.now lanes.now sizes.guesses sizes.ones sizes.top row.state row.bits
         row.next row.first) workspace.now row.end }
-    ensures by_index { (found code : ℕ) → result ≡ Found.At found code
+    ensures found { (found code : ℕ) → result ≡ Found.At found code
         → Stops (line_of edges.now lanes.now sizes.guesses sizes.ones sizes.top row.state row.bits
         row.next row.first) workspace.now limit row.end cursor found code }
-    ensures passed { result ≡ Found.Nothing
+    ensures nothing { result ≡ Found.Nothing
         → Passed (line_of edges.now lanes.now sizes.guesses sizes.ones sizes.top row.state row.bits
         row.next row.first) workspace.now limit cursor row.end }
 {
@@ -188,10 +190,10 @@ pub fn scan_top(
 ) -> Found
     requires { (c : Setting edges.now lanes.now starts.now sizes.guesses sizes.ones sizes.top sizes.places)
         × Topped c.parts workspace.now base depth }
-    ensures coded { (c : Setting edges.now lanes.now starts.now sizes.guesses sizes.ones
+    ensures found { (c : Setting edges.now lanes.now starts.now sizes.guesses sizes.ones
         sizes.top sizes.places) → Topped c.parts workspace.now base depth → (cursor code : ℕ) → result ≡ Found.At cursor code
         → Coded c.parts code × ScanFinds c workspace.now base depth limit cursor code }
-    ensures scan_skips { (c : Setting edges.now lanes.now starts.now sizes.guesses sizes.ones
+    ensures nothing { (c : Setting edges.now lanes.now starts.now sizes.guesses sizes.ones
         sizes.top sizes.places) → Topped c.parts workspace.now base depth → result ≡ Found.Nothing
         → ScanSkips c workspace.now base depth limit }
 {

@@ -1,0 +1,18 @@
+-- `scans::scan` meets its contract. The loop's invariant: every cursor passed that fits has a colour of the limit or above. The measure is
+-- what is left of the cursors. Assumes nothing.
+use Prim.Native.Nat.{ℕ, ◌+◌, ◌-◌, ◌*◌, ◌/◌, ◌≤◌, ◌<◌}
+use native.Mathlib.Omega.{arith}
+use mathlib.Core.Path.{◌≡◌, sym, ◌∙◌, subst}
+use Rattle.workspace.proofs.Scanning.{line_of, Passed}
+use Rattle.workspace.proofs.Passing.{passed_none, passed_less, stops_same, turn_inside, turn_passed, turn_stops}
+use Rattle.scans.proofs.scan.Given as goal
+
+abbrev pub invariant-loop-c : goal.invariant-loop-c
+invariant-loop-c l =
+    (l.cursor ≤ l.c)
+    × Passed
+    (line_of l.edges l.lanes l.sizes.guesses l.sizes.ones l.sizes.top l.row.state l.row.bits l.row.next l.row.first)
+    l.workspace l.limit l.cursor l.c
+
+abbrev pub decreases-loop-c : goal.decreases-loop-c
+decreases-loop-c l = l.end - l.c
