@@ -1,4 +1,6 @@
 // The workspace before and after, and the run that is written out.
+#![tactic(auto)]
+
 ghost use Rattle.std.specs.Prelude.{◌≡◌, ◌++◌, ◌+◌, ◌-◌, ◌≤◌, ◌<◌, length, drop, replicate};
 ghost use Rattle.workspace.proofs.Tracks.{Stands, Lowest, Stacked, Wrote};
 
