@@ -1,5 +1,7 @@
 // The search: a nested depth-first search of the product for a marked place on a loop, in lent room. It answers holds, or
 // violated with a looping run in the track.
+#![tactic(auto)]
+
 ghost use Rattle.std.specs.Prelude.{◌≡◌, List, ltb, ℕ, ◌+◌, ◌-◌, ◌*◌, ◌≤◌, ◌<◌, length, get_or};
 ghost use Rattle.reading.specs.Parts.{places as places_of};
 ghost use Rattle.reading.specs.Refusals.{parts_of, case_of};
@@ -71,10 +73,10 @@ fn verdict(
     workspace: &mut [u16],
     track: &mut [u16],
 ) -> SearchAnswer
-    requires bytes_value { case_of bytes.now ≡ Case.Admitted shape }
-    requires places_value { places ≡ places_of (parts_of bytes.now) }
-    requires places_in_bounds { (6 * places ≤ length workspace.old) × ((i : ℕ) → i < places → get_or workspace.old i 0 ≡ 0) }
-    requires places_in_bounds_2 { 2 * places ≤ length track.old }
+    requires read { case_of bytes.now ≡ Case.Admitted shape }
+    requires sized { places ≡ places_of (parts_of bytes.now) }
+    requires room { (6 * places ≤ length workspace.old) × ((i : ℕ) → i < places → get_or workspace.old i 0 ≡ 0) }
+    requires track_room { 2 * places ≤ length track.old }
     ensures kept { Kept places workspace.old workspace.new }
     ensures decides { (lent : List ℕ)
         → Decides (parts_of bytes.now) lent track.old result (cleared (parts_of bytes.now) lent) track.new }
@@ -117,8 +119,8 @@ fn show(
     at: usize,
     track: &mut [u16],
 ) -> SearchAnswer
-    requires index_lt_outer { (s : Stands workspace.now places at) × (s.index < outer) }
-    requires le_inner { (1 ≤ inner) × Stacked workspace.now places outer (outer + inner - 1) × (outer + inner ≤ length track.old + 1)
+    requires at_outer { (s : Stands workspace.now places at) × (s.index < outer) }
+    requires stacked { (1 ≤ inner) × Stacked workspace.now places outer (outer + inner - 1) × (outer + inner ≤ length track.old + 1)
         × (outer + inner < 65536) }
     ensures { (k : ℕ) × (stem : ℕ) × (repeat : ℕ) × (result ≡ SearchAnswer.Violated stem repeat)
         × Lowest workspace.now places at k

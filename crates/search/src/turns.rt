@@ -72,9 +72,9 @@ fn inner_turn(
     workspace: &mut [u16],
     depth: usize,
 ) -> Turn
-    requires by_index { (c : Setting edges.now lanes.now starts.now sizes.guesses sizes.ones sizes.top sizes.places)
+    requires setting { (c : Setting edges.now lanes.now starts.now sizes.guesses sizes.ones sizes.top sizes.places)
         × (r : ℕ) × (w : ℕ) × (d : ℕ) × (first : List ℕ) × InnerIn c r w d first workspace.old depth }
-    requires le_depth { 1 ≤ depth }
+    requires deep { 1 ≤ depth }
     ensures kept { Kept sizes.places workspace.old workspace.new }
     ensures deeper { (c : Setting edges.now lanes.now starts.now sizes.guesses sizes.ones
         sizes.top sizes.places) (r w d : ℕ) (first : List ℕ) → InnerIn c r w d first workspace.old depth
@@ -111,9 +111,9 @@ fn inner_search(
     workspace: &mut [u16],
     code: usize,
 ) -> Turn
-    requires by_index { (c : Setting edges.now lanes.now starts.now sizes.guesses sizes.ones sizes.top sizes.places)
+    requires setting { (c : Setting edges.now lanes.now starts.now sizes.guesses sizes.ones sizes.top sizes.places)
         × (r : ℕ) × (d : ℕ) × Leaving c r workspace.old d code }
-    requires top_bound { sizes.top ≤ code % 8 }
+    requires marked { sizes.top ≤ code % 8 }
     ensures kept { Kept sizes.places workspace.old workspace.new }
     ensures ended { result ≡ Turn.Deeper → ⊥ }
     ensures back { (c : Setting edges.now lanes.now starts.now sizes.guesses sizes.ones
@@ -184,9 +184,9 @@ fn outer_turn(
     workspace: &mut [u16],
     depth: usize,
 ) -> Turn
-    requires by_index { (c : Setting edges.now lanes.now starts.now sizes.guesses sizes.ones sizes.top sizes.places)
+    requires setting { (c : Setting edges.now lanes.now starts.now sizes.guesses sizes.ones sizes.top sizes.places)
         × (r : ℕ) × OuterIn c r workspace.old depth }
-    requires le_depth { 1 ≤ depth }
+    requires deep { 1 ≤ depth }
     ensures kept { Kept sizes.places workspace.old workspace.new }
     ensures deeper { (c : Setting edges.now lanes.now starts.now sizes.guesses sizes.ones
         sizes.top sizes.places) (r : ℕ) → OuterIn c r workspace.old depth → result ≡ Turn.Deeper
@@ -275,10 +275,10 @@ fn root_turn(
     s: usize,
     b: usize,
 ) -> Hit
-    requires outer_in { (c : Setting edges.now lanes.now starts.now sizes.guesses sizes.ones sizes.top sizes.places)
+    requires setting { (c : Setting edges.now lanes.now starts.now sizes.guesses sizes.ones sizes.top sizes.places)
         × OuterIn c (root_number sizes.guesses sizes.top s b) workspace.old 0 × (s < c.parts.states)
         × (initial ≡ root_at c.parts sizes.guesses s b) }
-    requires b_lt_guesses { b < sizes.guesses }
+    requires guess { b < sizes.guesses }
     ensures kept { Kept sizes.places workspace.old workspace.new }
     ensures nothing { (c : Setting edges.now lanes.now starts.now sizes.guesses sizes.ones
         sizes.top sizes.places) → OuterIn c (root_number sizes.guesses sizes.top s b) workspace.old 0
