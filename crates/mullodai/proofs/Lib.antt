@@ -6,4 +6,3 @@ pub mod Judge
 pub mod WrongJudge
 pub mod Search
 pub mod StateLists
-pub mod Frame

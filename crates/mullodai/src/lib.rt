@@ -1,4 +1,6 @@
 // The bench for C: each entry of include/mullodai.h, thin over the crates below. No entry requires anything of its caller.
+#![tactic(auto)]
+
 ghost use Rattle.std.specs.Prelude.{◌≡◌, cond, ◌<◌, eqb};
 ghost use Rattle.reading.specs.Refusals.{parts_of, refusal};
 ghost use Rattle.reading.specs.Answers.{record_of};
