@@ -1,4 +1,3 @@
 pub mod Enough
-pub mod Fits
 pub mod Says
 pub mod Alike

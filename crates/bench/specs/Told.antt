@@ -1,5 +1,5 @@
 -- What the program prints of a case: "Bench program: reads standard input and runs the search".
-use Rattle.std.specs.Prelude.{ℕ, ◌≤◌, ◌⊎◌, List, ◌≡◌, take, drop}
+use Rattle.std.specs.Prelude.{ℕ, Result, IfOk, ◌≤◌, ◌⊎◌, List, ◌≡◌, take, drop}
 use Rattle.meaning.specs.Runs.{Violates, Holds}
 use Rattle.reading.specs.Answers.{number_of, place_of}
 use Rattle.reading.specs.Parts.{Parts, table_of, rule_of}
@@ -9,7 +9,6 @@ use Rattle.search.specs.Answers.{number, place, stem, loop}
 use Rattle.search.specs.declared.SearchAnswer.{SearchAnswer}
 use Rattle.text.specs.Text.{holds_text, violated_text, refused_text, Printed}
 use Rattle.bench.specs.declared.Verdict.{Verdict}
-use Rattle.bench.specs.declared.Input.{Input}
 
 -- a run of the case that breaks its rule, as text
 pub record ShowsRun (p : Parts) (text : List ℕ) : Type 0 where
@@ -35,6 +34,5 @@ abbrev pub verdict_of : SearchAnswer → Verdict
 verdict_of a = record { number = number a; place = place a; stem = stem a; repeat = loop a }
 
 -- the bytes that were read fit the room
-abbrev pub Within : Input → ℕ → Type 0
-Within (Input.Case length) room = length ≤ room
-Within Input.Failed room = Unit {0}
+abbrev pub Within : {E : Type 0} → Result ℕ E → ℕ → Type 0
+Within result room = IfOk result (λ length. length ≤ room)

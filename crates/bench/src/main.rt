@@ -1,9 +1,12 @@
 // The bench program: reads a case from standard input, runs the search, and prints the verdict.
+#![tactic(auto)]
+
 ghost use Rattle.std.specs.Prelude.{◌≡◌, length};
 ghost use Rattle.bench.specs.Told.{verdict_of, Told, Within};
 
-use libc::{STDIN_FILENO, STDOUT_FILENO};
 use search::SearchAnswer;
+use std::io;
+use std::io::{Read, Write};
 
 // "1,327 bytes are enough for any verdict": one more than the longest case.
 const ENOUGH: usize = 1327;
@@ -13,15 +16,8 @@ const WORKSPACE: usize = 30720;
 
 const TRACK: usize = 10240;
 
-// What standard input gives: a case of so many bytes, or a read that failed.
-#[derive(Drop)]
-enum Input {
-    Case(usize),
-    Failed,
-}
-
 // The paper's number and place of an answer, with k and m, which are 0 unless it is violated.
-#[derive(Drop)]
+#[derive(Clone, Copy)]
 struct Verdict {
     number: usize,
     place: usize,
@@ -29,53 +25,31 @@ struct Verdict {
     repeat: usize,
 }
 
-// Reads, answers and prints. A read that failed must not pass for a short case: then a line goes to standard error, and nothing to
+// Reads, answers and prints. A read that failed must not pass for a short case: it ends the program with an error, and nothing goes to
 // standard output.
-fn main() {
+fn main(rt: HostRuntime) -> io::Result<()> {
     let mut input = [0u8; ENOUGH];
     let mut workspace = [0u16; WORKSPACE];
     let mut track = [0u16; TRACK];
     let mut out = [0u8; text::LONGEST];
-    match read_case(&mut input) {
-        Input::Failed => os::fail(b"standard input"),
-        Input::Case(length) => {
-            let filled = answer(&input[..length], &mut workspace, &mut track, &mut out);
-            let is_written = io::write_all(STDOUT_FILENO, &out[..filled]);
-            if !is_written {
-                os::fail(b"standard output");
-            }
-        }
-    }
+    let length = read_case(&mut rt.stdin(), &mut input)?;
+    let filled = answer(&input[..length], &mut workspace, &mut track, &mut out);
+    rt.stdout().write_all(&out[..filled])
 }
 
 // Reads until the input ends or the room is full.
-fn read_case(room: &mut [u8]) -> Input
+fn read_case<R: Read>(from: &mut R, room: &mut [u8]) -> io::Result<usize>
     ensures { Within result (length room.new) }
 {
     let mut taken = 0;
     while taken < room.len() {
-        match read_some(&mut room[taken..]) {
-            Input::Failed => return Input::Failed,
-            Input::Case(more) => {
-                if more == 0 {
-                    return Input::Case(taken);
-                }
-                taken += more;
-            }
+        let more = from.read(&mut room[taken..])?;
+        if more == 0 {
+            return Ok(taken);
         }
+        taken += more;
     }
-    Input::Case(taken)
-}
-
-// Reads once: 0 bytes at the end of the input.
-fn read_some(room: &mut [u8]) -> Input
-    ensures { Within result (length room.new) }
-{
-    let got = libc::read(STDIN_FILENO, room);
-    if got < 0 {
-        return Input::Failed;
-    }
-    Input::Case(io::count(got, room))
+    Ok(taken)
 }
 
 // The verdict on a case as text, at the start of out, and how many bytes it is long.
