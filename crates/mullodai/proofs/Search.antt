@@ -17,7 +17,7 @@ use Rattle.reading.specs.Answers.{number_of, place_of}
 use Rattle.reading.specs.declared.CaseRefusal.{CaseRefusal}
 use Rattle.reading.specs.declared.Check.{Check}
 use Rattle.reading.specs.declared.Check.TheVariants.{Passed, Refused}
-use Rattle.search.specs.Answers.{number, place, stem, loop}
+use Rattle.search.specs.Answers.{number, stem, loop}
 use Rattle.search.specs.Outcome.{Searched, Reads, Searches, Refuses, Decides, workspace_needs, track_needs, cleared}
 use Rattle.search.specs.declared.SearchAnswer.{SearchAnswer}
 use Rattle.search.proofs.Outcomes.{searched_agree, searched_decides, decides_exactly}

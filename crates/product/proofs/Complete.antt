@@ -21,7 +21,7 @@ use Rattle.meaning.proofs.Loops.{by_lower, position_in}
 use Rattle.meaning.proofs.Valuation.{Valuation}
 use Rattle.meaning.proofs.Operators.{laws_operands}
 use Rattle.product.specs.Places.{Place}
-use Rattle.product.specs.Product.{Product, temporal, truth, meets, width, top, size, place, numbering, met, next, marked, initial}
+use Rattle.product.specs.Product.{Product, temporal, truth, meets, width, top, size, place, numbering, met, next, marked}
 use Rattle.product.proofs.Waiting.{From, Recurs, Move, below_top, met_recurs→top_recurs}
 use Rattle.meaning.proofs.Positions.{Onward, on, back, position_onward, position_below}
 use Rattle.product.proofs.Numbers.{numbering_below, place_numbering}

@@ -1,1 +1,3 @@
+#![tactic(auto)]
+
 // What the judge's scratch holds: theory only, no code.

@@ -11,8 +11,7 @@ use lib.Pow.{pow_mono}
 use lib.ListN.{length, take, drop, replicate, length-replicate, get_or-replicate, get_or-append, get_or-eq_default}
 use lib.Seq.{get_or-take, drop_at, length-take-le}
 use borrow.Author.Tests.{lt-ltb, le-ltb}
-use Rattle.reading.specs.Parts.{Parts, table_of, node_of, node_count, edge_count, from_of, temporals, eventualities, places}
-use Rattle.reading.proofs.Admitted.{Admitted}
+use Rattle.reading.specs.Parts.{Parts, table_of, node_of, node_count, edge_count, from_of, places}
 use Rattle.reading.specs.Refusals.{parts_of, case_of}
 use Rattle.reading.specs.declared.Case.{Case}
 use Rattle.reading.specs.declared.Shape.{Shape}

@@ -19,7 +19,7 @@ use Rattle.reading.specs.Parts.{table_of, edge_count, to_of, node_count, node_of
 use Rattle.product.specs.Product.{promised, meets, width, met, next, numbering}
 use Rattle.product.proofs.Promises.{published_top}
 use Rattle.product.proofs.Steps.{successor↔tests}
-use Rattle.workspace.proofs.Setting.{product_of, start_of, edge_at, candidate, decoded, number_of, Coded, Setting}
+use Rattle.workspace.proofs.Setting.{product_of, start_of, edge_at, candidate, decoded, Coded, Setting}
 use Rattle.workspace.proofs.Case.{width_is, top_is as top_counts, Leads, start_within}
 use Rattle.workspace.proofs.Edges.{start_is, edge_leaves, edge_there}
 use Rattle.workspace.proofs.Scanning.{next_in, cursors_in, Line, line_of, to_at, fits_at, index_at}

@@ -13,7 +13,7 @@ use Rattle.reading.specs.Parts.{edge_count, temporals, eventualities, places}
 use Rattle.graph.proofs.Graph.{◌!◌}
 use Rattle.graph.proofs.Machine.{Skips, Finds}
 use Rattle.product.specs.Places.{Place}
-use Rattle.product.specs.Product.{numbering, next}
+use Rattle.product.specs.Product.{numbering}
 use Rattle.product.proofs.Steps.{successor↔tests}
 use Rattle.workspace.proofs.Setting.{product_of, edge_at, candidate, cand_of, cursors_of, code_of, decoded, number_of, Coded, Setting}
 use Rattle.workspace.proofs.Case.{width_is, top_is as top_counts, guesses_within, top_within, next_within, Leads, candidate_leads}

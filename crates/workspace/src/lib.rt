@@ -1,1 +1,3 @@
+#![tactic(auto)]
+
 // What the workspace of a search holds: theory only, no code.

@@ -1,7 +1,6 @@
 -- `bench::answer` meets its contract: the search, then its text; a violated answer's run can be shown. Assumes nothing.
 use mathlib.Core.Path.{◌∙◌}
 use Rattle.bench.proofs.Says.{sayable, text_of}
-use borrow.Author.Rules.{rules}
 use Rattle.bench.proofs.answer.Goals as goal
 
 pub write-requires : goal.write-requires

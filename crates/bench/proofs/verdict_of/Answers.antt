@@ -2,7 +2,6 @@
 use Prim.Native.Nat.{ℕ}
 use mathlib.Core.Path.{sym, ap, ap₂, ◌∙◌}
 use Rattle.bench.specs.Told.{verdict_of}
-use borrow.Author.Rules.{rules}
 use Rattle.bench.proofs.verdict_of.Goals as goal
 
 pub returns-in-Refused : goal.returns-in-Refused

@@ -1,6 +1,5 @@
 -- `judge::judge` meets its contract: the case's refusal, or the judgement by the admitted case. Assumes nothing.
 use mathlib.Core.Path.{sym, ◌∙◌}
-use borrow.Author.Rules.{rules}
 use Rattle.reading.proofs.Read.{case_refused}
 use Rattle.judge.proofs.Verdict.{judged_case}
 use Rattle.judge.proofs.judge.Goals as goal

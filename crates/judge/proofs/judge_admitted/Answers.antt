@@ -4,10 +4,9 @@ use mathlib.Core.Path.{◌≡◌, sym, ap₂, ◌∙◌, subst₂}
 use mathlib.Core.Bool.{Bool}
 use mathlib.Core.List.{List}
 use lib.ListN.{length}
-use borrow.Author.Rules.{rules}
 use Rattle.bits.specs.Bits.{bit}
 use Rattle.rule.proofs.Entries.{entries}
-use Rattle.reading.specs.Parts.{Parts, node_of, node_count}
+use Rattle.reading.specs.Parts.{node_of, node_count}
 use Rattle.reading.specs.Refusals.{parts_of, refusal}
 use Rattle.reading.specs.declared.Check.{Check}
 use Rattle.reading.proofs.Known.{known}

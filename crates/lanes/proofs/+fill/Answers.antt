@@ -1,6 +1,6 @@
 -- With no node there is nothing to fill; otherwise node n-1 is added to what is filled for the nodes below it. Assumes nothing.
 use mathlib.Core.Path.{◌≡◌}
-use Prim.Native.Nat.{ℕ, suc, ◌-◌, ◌<◌}
+use Prim.Native.Nat.{suc, ◌-◌}
 use native.Mathlib.Omega.{arith}
 use Rattle.reading.specs.Parts.{node_of, table_of}
 use Rattle.filled.proofs.Nodes.{filling_below, stated}

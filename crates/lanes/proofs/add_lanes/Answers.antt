@@ -1,13 +1,8 @@
 -- `lanes::add_lanes` meets its contract. The loop's invariant: node n's lanes are added in the states below s. The measure is what is
 -- left of the states. Assumes nothing.
 use mathlib.Core.Path.{◌≡◌}
-use Prim.Native.Nat.{suc, ◌-◌, ◌≤◌}
 use native.Mathlib.Omega.{arith}
-use lib.ListN.{length}
-use Rattle.meaning.specs.Table.{Table}
 use Rattle.reading.specs.Parts.{node_of}
-use Rattle.product.proofs.Lanes.{Rows, Lanes}
-use Rattle.filled.proofs.Filling.{Partly}
 use Rattle.filled.proofs.Nodes.{length_more}
 use Rattle.filled.proofs.Blocks.{partly_none, partly_more, partly_all}
 use Rattle.lanes.proofs.add_lanes.Goals as goal
@@ -17,7 +12,6 @@ loop-s-init c = (omega arith, c.requires.5, λ table states rows all. partly_non
 
 pub add_lanes_at-requires : goal.add_lanes_at-requires
 add_lanes_at-requires c =
-    
     (c.requires.0, c.requires.1, omega (arith, c.requires.2), c.requires.3, c.requires.4, c.loop-s.invariant.1)
 
 pub loop-s-preserved : goal.loop-s-preserved
@@ -37,8 +31,7 @@ loop-s-preserved c =
 
 pub returns : goal.returns
 returns c =
-    let at = c.loop-s in
-     (
+    let at = c.loop-s in (
       at.invariant.1,
       λ table states rows all.
           let passed : at.s ≡ table.states = omega arith in

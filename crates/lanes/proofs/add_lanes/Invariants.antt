@@ -2,14 +2,11 @@
 -- left of the states. Assumes nothing.
 use mathlib.Core.Path.{◌≡◌}
 use Prim.Native.Nat.{suc, ◌-◌, ◌≤◌}
-use native.Mathlib.Omega.{arith}
 use lib.ListN.{length}
 use Rattle.meaning.specs.Table.{Table}
 use Rattle.reading.specs.Parts.{node_of}
 use Rattle.product.proofs.Lanes.{Rows, Lanes}
 use Rattle.filled.proofs.Filling.{Partly}
-use Rattle.filled.proofs.Nodes.{length_more}
-use Rattle.filled.proofs.Blocks.{partly_none, partly_more, partly_all}
 use Rattle.lanes.proofs.add_lanes.Given as goal
 
 abbrev pub invariant-loop-s : goal.invariant-loop-s

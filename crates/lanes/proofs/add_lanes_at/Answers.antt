@@ -1,5 +1,4 @@
 -- `lanes::add_lanes_at` meets its contract: its four stores add node n in state s. Assumes nothing.
-use borrow.Author.Rules.{rules}
 use native.Mathlib.Omega.{arith}
 use mathlib.Core.Path.{◌≡◌, ap, ◌∙◌}
 use mathlib.Core.List.{List}

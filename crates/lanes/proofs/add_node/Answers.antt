@@ -60,8 +60,7 @@ counted-requires c =
       few_temporals c.requires.0,
       length_more 6 (node_of c.args.nodes.now) c.args.n high,
       c.requires.1.temporals_are,
-    ) in
-    (
+    ) in (
       c.if-operator-lt6.false,
       room,
       promises_few (node_of c.args.nodes.now) c.args.n c.args.before.temporals c.args.before.promises

@@ -1,12 +1,8 @@
 -- `lanes::add_pattern_row` meets its contract. The loop's invariant: the row is added in the states below s. The measure is what is left
 -- of the states. Assumes nothing.
 use mathlib.Core.Path.{◌≡◌}
-use mathlib.Core.Bool.{Bool}
-use Prim.Native.Nat.{ℕ, ◌-◌, ◌≤◌}
 use native.Mathlib.Omega.{arith}
-use lib.ListN.{length, length-set}
-use Rattle.filled.proofs.Lane.{Lane}
-use Rattle.filled.proofs.Filling.{RowAdded}
+use lib.ListN.{length-set}
 use Rattle.filled.proofs.Rows.{row_none, row_more}
 use Rattle.lanes.proofs.add_pattern_row.Goals as goal
 

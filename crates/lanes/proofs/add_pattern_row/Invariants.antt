@@ -3,11 +3,9 @@
 use mathlib.Core.Path.{◌≡◌}
 use mathlib.Core.Bool.{Bool}
 use Prim.Native.Nat.{ℕ, ◌-◌, ◌≤◌}
-use native.Mathlib.Omega.{arith}
-use lib.ListN.{length, length-set}
+use lib.ListN.{length}
 use Rattle.filled.proofs.Lane.{Lane}
 use Rattle.filled.proofs.Filling.{RowAdded}
-use Rattle.filled.proofs.Rows.{row_none, row_more}
 use Rattle.lanes.proofs.add_pattern_row.Given as goal
 
 abbrev pub invariant-loop-s : goal.invariant-loop-s

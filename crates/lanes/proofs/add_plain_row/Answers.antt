@@ -1,14 +1,9 @@
 -- `lanes::add_plain_row` meets its contract. The loop's invariant: the row is added in the states below s. The measure is what is left
 -- of the states. Assumes nothing.
 use mathlib.Core.Path.{◌≡◌}
-use Prim.Native.Nat.{◌-◌, ◌≤◌}
+use Prim.Native.Nat.{◌≤◌}
 use native.Mathlib.Omega.{arith}
-use lib.ListN.{length, length-set}
-use Rattle.meaning.specs.Table.{Table}
-use Rattle.reading.specs.Parts.{node_of}
-use Rattle.product.specs.Product.{truth}
-use Rattle.product.proofs.Lanes.{Rows}
-use Rattle.filled.proofs.Filling.{Stated, RowAdded}
+use lib.ListN.{length-set}
 use Rattle.filled.proofs.Rows.{row_none, row_more, rows_kept}
 use Rattle.lanes.proofs.add_plain_row.Goals as goal
 
@@ -17,13 +12,11 @@ loop-s-init c = (omega arith, c.requires.4, λ table stated all. row_none _ _ _)
 
 pub plain_lane-lane-requires : goal.plain_lane-lane-requires
 plain_lane-lane-requires c =
-    
     (c.requires.0, c.requires.1, omega arith, omega (arith, c.requires.3))
 
 pub loop-s-preserved : goal.loop-s-preserved
 loop-s-preserved c =
-    let at = c.loop-s in
-     (
+    let at = c.loop-s in (
       omega arith,
       simp length-set at.invariant.1,
       λ table stated all.

@@ -2,14 +2,12 @@
 -- of the states. Assumes nothing.
 use mathlib.Core.Path.{◌≡◌}
 use Prim.Native.Nat.{◌-◌, ◌≤◌}
-use native.Mathlib.Omega.{arith}
-use lib.ListN.{length, length-set}
+use lib.ListN.{length}
 use Rattle.meaning.specs.Table.{Table}
 use Rattle.reading.specs.Parts.{node_of}
 use Rattle.product.specs.Product.{truth}
 use Rattle.product.proofs.Lanes.{Rows}
 use Rattle.filled.proofs.Filling.{Stated, RowAdded}
-use Rattle.filled.proofs.Rows.{row_none, row_more, rows_kept}
 use Rattle.lanes.proofs.add_plain_row.Given as goal
 
 abbrev pub invariant-loop-s : goal.invariant-loop-s

@@ -1,5 +1,4 @@
 -- `lanes::atom_lane` meets its contract: all ones where the label has the atom, and 0 where not. Assumes nothing.
-use borrow.Author.Rules.{rules}
 use native.Mathlib.Omega.{arith}
 use mathlib.Core.Path.{◌≡◌, refl, sym, ap, ◌∙◌}
 use Prim.Native.Nat.{ℕ}

@@ -1,5 +1,4 @@
 -- `lanes::carry_lane` meets its contract: X reads its operand's row, another operator its own. Assumes nothing.
-use borrow.Author.Rules.{rules}
 use native.Mathlib.Omega.{arith}
 use mathlib.Core.Path.{sym, ap, ◌∙◌}
 use Prim.Native.Nat.{ℕ, ◌+◌, ◌*◌}
@@ -9,14 +8,12 @@ use Rattle.lanes.proofs.carry_lane.Goals as goal
 
 pub row_lane-requires : goal.row_lane-requires
 row_lane-requires c =
-    
     let next = sym c.operator.ensures ∙ c.if-operator-eq6.true in
     let lower = c.requires.0.first_lower (rw next (omega arith)) in
     (omega (arith, lower, c.first.ensures, c.requires.0.low), c.requires.1)
 
 pub returns-then-operator-eq6 : goal.returns-then-operator-eq6
 returns-then-operator-eq6 c table here all =
-    
     carry_next table c.args.nodes.now c.args.n c.args.s c.args.rows.now here c.requires.0 all
     c.row_lane.result
     (sym c.operator.ensures ∙ c.if-operator-eq6.true)
@@ -24,7 +21,6 @@ returns-then-operator-eq6 c table here all =
 
 pub returns : goal.returns
 returns c table here all =
-    
     carry_self table c.args.nodes.now c.args.n c.args.s c.args.rows.now here c.requires.0 all
     c.row_lane-2.result
     (λ e. c.if-operator-eq6.false (c.operator.ensures ∙ e))

@@ -1,5 +1,4 @@
 -- `lanes::counted` meets its contract: X adds a temporal node, another operator a promise besides. Assumes nothing.
-use borrow.Author.Rules.{rules}
 use native.Mathlib.Omega.{arith}
 use mathlib.Core.Path.{sym, ◌∙◌}
 use Prim.Native.Nat.{◌≤◌}

@@ -1,5 +1,4 @@
 -- `lanes::label_lane` meets its contract: an atom's number is below 16. Assumes nothing.
-use borrow.Author.Rules.{rules}
 use native.Mathlib.Omega.{arith}
 use mathlib.Core.Path.{sym, ap₂, ◌∙◌}
 use Rattle.bits.specs.Bits.{bit}
@@ -8,7 +7,6 @@ use Rattle.lanes.proofs.label_lane.Goals as goal
 
 pub atom_lane-requires : goal.atom_lane-requires
 atom_lane-requires c =
-    
     let atom = sym c.operator.ensures ∙ c.if-operator-eq1.true in
     omega (arith, c.first.ensures, c.requires.0.atom_low atom)
 

@@ -1,5 +1,4 @@
 -- `lanes::met_lane` meets its contract: the pole says which of the two words it is. Assumes nothing.
-use borrow.Author.Rules.{rules}
 use native.Mathlib.Omega.{arith}
 use Rattle.meaning.specs.Laws.{greatest}
 use Rattle.filled.proofs.Lane.{lane_of_word, lane_itself, lane_not, lane_or, all_ones, not_all_ones}

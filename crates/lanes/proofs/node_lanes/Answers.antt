@@ -1,5 +1,4 @@
 -- `lanes::node_lanes` meets its contract: the four words are made of the lanes of the node and its operands. Assumes nothing.
-use borrow.Author.Rules.{rules}
 use native.Mathlib.Omega.{arith}
 use Prim.Native.Nat.{◌-◌}
 use lib.Bits.{and_lt}
@@ -14,7 +13,6 @@ overflow_sub-result c =
 
 pub returns : goal.returns
 returns c table here all =
-    
     let operator = c.operator-operator.ensures in
     node_lanes table c.args.nodes.now c.args.n c.args.s c.args.rows.now here c.requires.0
     c.first_lane-a.result

@@ -1,5 +1,4 @@
 -- `lanes::plain_lane` meets its contract: the word that the operator makes of its atom and its operands' lanes. Assumes nothing.
-use borrow.Author.Rules.{rules}
 use mathlib.Core.Path.{sym, ap}
 use Prim.Native.Nat.{ℕ}
 use Rattle.bits.specs.Bits.{bit}
@@ -10,7 +9,6 @@ use Rattle.lanes.proofs.plain_lane.Goals as goal
 
 pub returns : goal.returns
 returns c table label here all =
-    
     let atom = (node_of c.args.nodes.now c.args.n).first in
     plain_lane table c.args.nodes.now c.args.n c.args.s c.args.rows.now here c.requires.0
     c.first_lane-a.result

@@ -1,5 +1,4 @@
 -- `lanes::second_lane` meets its contract: an operand is a lower node, so its row is there. Assumes nothing.
-use borrow.Author.Rules.{rules}
 use native.Mathlib.Omega.{arith}
 use mathlib.Core.Path.{◌≡◌, ap, ◌∙◌}
 use Prim.Native.Nat.{ℕ, ◌+◌, ◌*◌}
@@ -16,7 +15,6 @@ row_lane-requires c =
 
 pub returns-then-operands-ge2 : goal.returns-then-operands-ge2
 returns-then-operands-ge2 c =
-    
     λ h. c.row_lane.ensures ∙ ap (λ (x : ℕ). get_or c.args.rows.now (x * 64 + c.args.s) 0) c.second.ensures
 
 pub returns : goal.returns

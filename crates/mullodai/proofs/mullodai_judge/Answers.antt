@@ -1,5 +1,4 @@
 -- `mullodai::mullodai_judge` meets its contract: the judge's answer, by its number and place. Assumes nothing.
-use borrow.Author.Rules.{rules}
 use Rattle.mullodai.proofs.mullodai_judge.Goals as goal
 
 pub returns : goal.returns

@@ -1,6 +1,5 @@
 -- `mullodai::mullodai_state` meets its contract. By cases on the reading's answer. Assumes nothing.
 use mathlib.Core.Path.{sym, ◌∙◌}
-use borrow.Author.Rules.{rules}
 use Rattle.mullodai.specs.Outcomes.{state_answer}
 use Rattle.mullodai.proofs.mullodai_state.Goals as goal
 

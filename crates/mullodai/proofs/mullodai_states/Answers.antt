@@ -1,5 +1,5 @@
 -- `mullodai::mullodai_states` meets its contract: as many records are filled as the settled answer says, and they fit. Assumes nothing.
-use Rattle.std.proofs.Common.{◌≡◌, ◌+◌, ◌<◌, ◌≤◌, ℕ, List, cond, eqb, length, refl, ap, sym, ◌∙◌, subst, arith, add-one, slice_set}
+use Rattle.std.proofs.Common.{◌≡◌, ◌+◌, ◌<◌, ◌≤◌, ℕ, List, cond, eqb, length, ap, sym, ◌∙◌, arith, add-one, slice_set}
 use Rattle.reading.specs.Refusals.{parts_of}
 use Rattle.reading.specs.declared.StateRecord.{StateRecord}
 use Rattle.reading.specs.Answers.{record_of}

@@ -3,12 +3,8 @@ use Prim.Native.Nat.{◌+◌, ◌*◌, ◌-◌, ◌≤◌}
 use mathlib.Core.Path.{◌∙◌}
 use native.Mathlib.Omega.{arith}
 use lib.ListN.{length, length-take, length-drop}
-use borrow.Author.Rules.{rules}
 use Rattle.reading.specs.Refusals.{parts_of}
 use Rattle.mullodai.proofs.StateLists.{value_inside, record_there}
-use Rattle.mullodai.proofs.record_at.Reads as reads
-use Rattle.mullodai.proofs.record_at.Lts as lts
-use Rattle.reading.proofs.record_at.Reads as record-at-reads
 use Rattle.mullodai.proofs.record_at.Goals as goal
 
 pub slice_bounds-record_at-count : goal.slice_bounds-record_at-count

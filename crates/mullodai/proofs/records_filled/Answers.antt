@@ -1,8 +1,6 @@
 -- `records_filled`: the place where the number is 0, and else none. Assumes nothing.
 use mathlib.Core.Path.{refl}
 use borrow.Author.Tests.{ne_eqb}
-use Rattle.mullodai.proofs.records_filled.Reads as reads
-use Rattle.mullodai.proofs.records_filled.Lts as lts
 use Rattle.mullodai.proofs.records_filled.Goals as goal
 
 pub returns-then-answer-eq0 : goal.returns-then-answer-eq0

@@ -1,10 +1,4 @@
 -- `mullodai::search_answer` meets its contract. Assumes nothing.
-use borrow.Author.Rules.{rules}
-use Rattle.mullodai.proofs.search_answer.Reads as reads
-use Rattle.mullodai.proofs.search_answer.Lts as lts
-use Rattle.mullodai.proofs.answer_at.Reads as answer-at-reads
-use Rattle.reading.proofs.number.Reads as number-reads
-use Rattle.reading.proofs.place.Reads as place-reads
 use Rattle.mullodai.proofs.search_answer.Goals as goal
 
 -- src/lib.rt:107:1

@@ -4,13 +4,6 @@ use mathlib.Core.Path.{sym, ◌∙◌}
 use Rattle.reading.proofs.Read.{case_refused}
 use Rattle.mullodai.specs.Outcomes.{states_answer}
 use Rattle.mullodai.proofs.StateLists.{list_short, list_long}
-use borrow.Author.Rules.{rules}
-use Rattle.mullodai.proofs.states_answer.Reads as reads
-use Rattle.mullodai.proofs.states_answer.Lts as lts
-use Rattle.mullodai.proofs.answer_at.Reads as answer-at-reads
-use Rattle.reading.proofs.admit.Reads as admit-reads
-use Rattle.reading.proofs.number.Reads as number-reads
-use Rattle.reading.proofs.place.Reads as place-reads
 use Rattle.mullodai.proofs.states_answer.Goals as goal
 
 pub returns-in-Refused : goal.returns-in-Refused

@@ -1,7 +1,6 @@
 -- `reading::admit` meets its contract. The fields' refusal is given if there is one; else the parts' answer is the case's.
 -- Assumes nothing.
 use mathlib.Core.Path.{sym, ◌∙◌}
-use borrow.Author.Rules.{rules}
 use Rattle.reading.specs.Refusals.{case_of, refusal}
 use Rattle.reading.proofs.admit.Goals as goal
 

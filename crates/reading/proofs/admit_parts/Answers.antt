@@ -4,7 +4,6 @@ use Prim.Native.Nat.{ℕ, ◌+◌, ◌*◌}
 use mathlib.Core.Path.{◌≡◌, sym, ap, ◌∙◌}
 use native.Mathlib.Omega.{arith}
 use lib.ListN.{length-take, length-drop}
-use borrow.Author.Rules.{rules}
 use Rattle.reading.specs.Refusals.{length_at, at03}
 use Rattle.reading.proofs.Read.{read_refused, read_passed}
 use Rattle.reading.proofs.Spans.{Offsets, offsets, parts_taken}

@@ -1,7 +1,6 @@
 -- `reading::record_at` meets its contract. The label and the flags are the record's two fields. Assumes nothing.
 use Prim.Native.Nat.{ℕ}
 use mathlib.Core.Path.{ap₂}
-use borrow.Author.Rules.{rules}
 use Rattle.reading.specs.Answers.{record_of}
 use Rattle.reading.proofs.record_at.Goals as goal
 

@@ -5,7 +5,6 @@ use mathlib.Core.List.{List}
 use mathlib.Core.Path.{sym, ap, ◌∙◌}
 use native.Mathlib.Omega.{arith}
 use lib.ListN.{length}
-use borrow.Author.Rules.{rules}
 use Rattle.reading.specs.declared.StateAnswer.{StateAnswer}
 use Rattle.reading.specs.Answers.{record_of}
 use Rattle.reading.proofs.Known.{known}

@@ -1,7 +1,6 @@
 -- `rule::plain_word` meets its contract: each arm makes the word that its row of the table says. Assumes nothing.
 use mathlib.Core.Path.{◌≡◌}
 use native.Mathlib.Omega.{arith}
-use borrow.Author.Rules.{rules}
 use Rattle.bits.proofs.Word.{word_and, word_itself, word_not, word_or, word_true}
 use Rattle.rule.proofs.plain_word.Goals as goal
 

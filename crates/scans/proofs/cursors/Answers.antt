@@ -1,6 +1,5 @@
 -- `scans::cursors` meets its contract: it goes by the lane of the places that nothing follows. Assumes nothing.
 use mathlib.Core.Path.{sym, ◌∙◌}
-use borrow.Author.Rules.{rules}
 use Rattle.scans.proofs.cursors.Goals as goal
 
 pub returns-then-is_set : goal.returns-then-is_set

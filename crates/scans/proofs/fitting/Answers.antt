@@ -1,5 +1,4 @@
 -- `scans::fitting` meets its contract: the ones, cut down by each of the four temporal nodes. Assumes nothing.
-use borrow.Author.Rules.{rules}
 use Rattle.workspace.proofs.Scanning.{fitting_in}
 use Rattle.scans.proofs.fitting.Goals as goal
 

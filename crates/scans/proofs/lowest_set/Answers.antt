@@ -3,7 +3,6 @@ use Prim.Native.Nat.{◌/◌, ◌^◌}
 use native.Mathlib.Omega.{arith}
 use lib.Count.{trailing_le}
 use Rattle.workspace.proofs.Trailing.{lowest_set}
-use borrow.Author.Rules.{rules}
 use Rattle.scans.proofs.lowest_set.Goals as goal
 
 pub overflow_cast-result-3 : goal.overflow_cast-result-3

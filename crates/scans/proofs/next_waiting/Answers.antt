@@ -1,7 +1,6 @@
 -- `scans::next_waiting` meets its contract: below the top it goes by the promise's lane. Assumes nothing.
 use mathlib.Core.Path.{sym, ◌∙◌}
 use borrow.Author.Tests.{lt-ltb, le-ltb}
-use borrow.Author.Rules.{rules}
 use Rattle.scans.proofs.next_waiting.Goals as goal
 
 pub returns-then-top-w : goal.returns-then-top-w

@@ -2,7 +2,6 @@
 use Prim.Native.Nat.{◌+◌, ◌/◌}
 use mathlib.Core.Path.{◌≡◌, ◌∙◌}
 use lib.ListN.{get_or}
-use borrow.Author.Rules.{rules}
 use Rattle.scans.proofs.row_of.Goals as goal
 
 pub overflow_sub-after : goal.overflow_sub-after

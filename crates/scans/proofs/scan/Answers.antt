@@ -1,9 +1,8 @@
 -- `scans::scan` meets its contract. The loop's invariant: every cursor passed that fits has a colour of the limit or above. The measure is
 -- what is left of the cursors. Assumes nothing.
-use Prim.Native.Nat.{ℕ, ◌+◌, ◌-◌, ◌*◌, ◌/◌, ◌≤◌, ◌<◌}
+use Prim.Native.Nat.{ℕ, ◌+◌, ◌*◌, ◌/◌, ◌<◌}
 use native.Mathlib.Omega.{arith}
 use mathlib.Core.Path.{◌≡◌, sym, ◌∙◌, subst}
-use Rattle.workspace.proofs.Scanning.{line_of, Passed}
 use Rattle.workspace.proofs.Passing.{passed_none, passed_less, stops_same, turn_inside, turn_passed, turn_stops}
 use Rattle.scans.proofs.scan.Goals as goal
 
@@ -51,15 +50,15 @@ code-requires c =
 
 pub returns-then-b-lt16 : goal.returns-then-b-lt16
 returns-then-b-lt16 c = record {
-      found = λ found code e.
-          let at : c.loop-c.c / 16 * 16 + c.scan_bits-b.result ≡ found = cc in
-          let is : c.code.result ≡ code = cc in
-          stops_same _
-          (turn_stops _ _ _ _ _ c.requires _ _ _ c.loop-c-test.true c.end-s.ensures c.fitting-fit.ensures
-          c.loop-c.invariant.1 _ c.scan_bits-b.ensures c.if-b-lt16.true c.loop-c.invariant.0)
-          at (sym c.code.ensures ∙ is);
-      nothing = λ e. absurd (let z : ◌≡◌ {A = ℕ} 0 1 = cc in omega arith);
-    }
+  found = λ found code e.
+      let at : c.loop-c.c / 16 * 16 + c.scan_bits-b.result ≡ found = cc in
+      let is : c.code.result ≡ code = cc in
+      stops_same _
+      (turn_stops _ _ _ _ _ c.requires _ _ _ c.loop-c-test.true c.end-s.ensures c.fitting-fit.ensures
+      c.loop-c.invariant.1 _ c.scan_bits-b.ensures c.if-b-lt16.true c.loop-c.invariant.0)
+      at (sym c.code.ensures ∙ is);
+  nothing = λ e. absurd (let z : ◌≡◌ {A = ℕ} 0 1 = cc in omega arith);
+}
 
 pub overflow_mul-c : goal.overflow_mul-c
 overflow_mul-c c =
@@ -78,11 +77,11 @@ loop-c-smaller c =
 
 pub loop-c-preserved : goal.loop-c-preserved
 loop-c-preserved c = (
-      omega (arith, c.loop-c.invariant.0),
-      turn_passed _ _ _ _ _ c.requires _ _ _ c.loop-c-test.true c.end-s.ensures c.fitting-fit.ensures
-          c.loop-c.invariant.1 _ c.scan_bits-b.ensures (c.loop-c.c / 16 * 16 + 16) (omega (arith, c.if-b-lt16.false))
-          (omega arith),
-    )
+  omega (arith, c.loop-c.invariant.0),
+  turn_passed _ _ _ _ _ c.requires _ _ _ c.loop-c-test.true c.end-s.ensures c.fitting-fit.ensures
+      c.loop-c.invariant.1 _ c.scan_bits-b.ensures (c.loop-c.c / 16 * 16 + 16) (omega (arith, c.if-b-lt16.false))
+      (omega arith),
+)
 
 pub returns : goal.returns
 returns c = record {

@@ -1,10 +1,7 @@
 -- `scans::scan` meets its contract. The loop's invariant: every cursor passed that fits has a colour of the limit or above. The measure is
 -- what is left of the cursors. Assumes nothing.
-use Prim.Native.Nat.{ℕ, ◌+◌, ◌-◌, ◌*◌, ◌/◌, ◌≤◌, ◌<◌}
-use native.Mathlib.Omega.{arith}
-use mathlib.Core.Path.{◌≡◌, sym, ◌∙◌, subst}
+use Prim.Native.Nat.{◌-◌, ◌≤◌}
 use Rattle.workspace.proofs.Scanning.{line_of, Passed}
-use Rattle.workspace.proofs.Passing.{passed_none, passed_less, stops_same, turn_inside, turn_passed, turn_stops}
 use Rattle.scans.proofs.scan.Given as goal
 
 abbrev pub invariant-loop-c : goal.invariant-loop-c

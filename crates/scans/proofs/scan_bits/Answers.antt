@@ -1,11 +1,10 @@
 -- `scans::scan_bits` meets its contract. The loop's invariant: every set bit passed has a colour of the limit or above, and the bit at hand
 -- is the next that is set, if it is below 16. The measure is what is left of 49. Assumes nothing.
-use Prim.Native.Nat.{ℕ, ◌-◌, ◌<◌}
+use Prim.Native.Nat.{ℕ, ◌<◌}
 use native.Mathlib.Omega.{arith}
 use mathlib.Core.Path.{sym, subst}
-use lib.ListN.{length, get_or}
-use Rattle.workspace.proofs.Scanning.{index_in}
-use Rattle.workspace.proofs.Passing.{Walked, walked_first, walked_on, walked_found, walked_none}
+use lib.ListN.{length}
+use Rattle.workspace.proofs.Passing.{walked_first, walked_on, walked_found, walked_none}
 use Rattle.scans.proofs.scan_bits.Goals as goal
 
 pub lowest_set-b2-requires : goal.lowest_set-b2-requires

@@ -1,11 +1,9 @@
 -- `scans::scan_bits` meets its contract. The loop's invariant: every set bit passed has a colour of the limit or above, and the bit at hand
 -- is the next that is set, if it is below 16. The measure is what is left of 49. Assumes nothing.
-use Prim.Native.Nat.{ℕ, ◌-◌, ◌<◌}
-use native.Mathlib.Omega.{arith}
-use mathlib.Core.Path.{sym, subst}
-use lib.ListN.{length, get_or}
+use Prim.Native.Nat.{ℕ, ◌-◌}
+use lib.ListN.{get_or}
 use Rattle.workspace.proofs.Scanning.{index_in}
-use Rattle.workspace.proofs.Passing.{Walked, walked_first, walked_on, walked_found, walked_none}
+use Rattle.workspace.proofs.Passing.{Walked}
 use Rattle.scans.proofs.scan_bits.Given as goal
 
 abbrev pub invariant-loop-b2 : goal.invariant-loop-b2

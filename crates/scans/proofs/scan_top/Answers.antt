@@ -2,7 +2,6 @@
 use Prim.Native.Nat.{ℕ, ◌+◌, ◌-◌}
 use mathlib.Core.Path.{◌≡◌, ap, ◌∙◌}
 use lib.ListN.{get_or}
-use borrow.Author.Rules.{rules}
 use Rattle.workspace.proofs.Setting.{Setting, top_cursor}
 use Rattle.workspace.proofs.Tops.{top_small, top_rises, top_scannable, top_coded, top_finds, top_skips}
 use Rattle.scans.proofs.scan_top.Goals as goal
@@ -22,8 +21,8 @@ returns c =
     let a = c.args in
     -- the cursor that is read is the top's
     let cursor_is : (of : Setting a.edges.now a.lanes.now a.starts.now a.sizes.guesses a.sizes.ones a.sizes.top a.sizes.places)
-        → c.wide-cursor.result ≡ top_cursor of.parts a.workspace.now a.base a.depth =
-        λ of. c.wide-cursor.ensures.0 ∙ ap (λ (n : ℕ). get_or a.workspace.now (a.base + n + a.depth - 1) 0) of.size_is in
+    → c.wide-cursor.result ≡ top_cursor of.parts a.workspace.now a.base a.depth =
+    λ of. c.wide-cursor.ensures.0 ∙ ap (λ (n : ℕ). get_or a.workspace.now (a.base + n + a.depth - 1) 0) of.size_is in
     record {
       found = λ of t cursor code e.
           let stops = c.scan.ensures.found cursor code e in (

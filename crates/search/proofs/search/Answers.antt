@@ -3,7 +3,6 @@ use mathlib.Core.Path.{sym, ◌∙◌}
 use Rattle.reading.proofs.Read.{case_refused}
 use Rattle.reading.proofs.Known.{known}
 use Rattle.search.proofs.Outcomes.{searched_refused, searched_read}
-use borrow.Author.Rules.{rules}
 use Rattle.search.proofs.search.Goals as goal
 
 pub search_admitted-requires : goal.search_admitted-requires

@@ -7,7 +7,6 @@ use lib.ListN.{get_or}
 use Rattle.reading.specs.Parts.{places}
 use Rattle.reading.specs.Refusals.{parts_of}
 use Rattle.search.proofs.Prepared.{sizes_low, places_are, places_few, clear_zero, clear_twice, short_workspace, short_track, room_enough}
-use borrow.Author.Rules.{rules}
 use Rattle.search.proofs.search_admitted.Goals as goal
 
 -- ---- the needs
@@ -36,11 +35,11 @@ verdict-answer-requires c =
       read = c.requires;
       sized = size_is;
       room = (
-            omega (arith, c.clear.auto.workspace, c.if-workspace-needed.false),
-            λ i h.
-                ap (λ (l : List ℕ). get_or l i 0) c.clear.ensures
-                ∙ clear_zero (6 * c.places-places.result) c.args.workspace.now i (omega arith),
-          );
+        omega (arith, c.clear.auto.workspace, c.if-workspace-needed.false),
+        λ i h.
+            ap (λ (l : List ℕ). get_or l i 0) c.clear.ensures
+            ∙ clear_zero (6 * c.places-places.result) c.args.workspace.now i (omega arith),
+      );
       track_room = c.if-track-track_needed.false;
     }
 

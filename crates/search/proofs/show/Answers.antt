@@ -2,7 +2,6 @@
 use Prim.Native.Nat.{◌<◌}
 use native.Mathlib.Omega.{arith}
 use mathlib.Core.Path.{refl}
-use borrow.Author.Rules.{rules}
 use Rattle.meaning.proofs.Folds.{folds}
 use Rattle.search.proofs.show.Goals as goal
 
@@ -40,8 +39,7 @@ write-requires c =
 pub returns : goal.returns
 returns c =
     let stem = c.fold_stem-stem in
-    let loop = c.fold_loop-repeat in
-     (
+    let loop = c.fold_loop-repeat in (
       c.find-k.result,
       stem.result,
       loop.result,

@@ -1,19 +1,15 @@
 -- `search::verdict` meets its contract: the arrays that it fills are the setting of a search over the case, and what the search shows there
 -- is the verdict. Assumes nothing.
-use Prim.Native.Nat.{ℕ, ◌-◌, ◌*◌}
+use Prim.Native.Nat.{ℕ}
 use native.Mathlib.Omega.{arith}
 use mathlib.Core.Path.{◌≡◌, refl}
 use lib.ListN.{length-replicate}
 use Rattle.reading.specs.Refusals.{case_of}
 use Rattle.reading.specs.declared.Case.{Case}
-use Rattle.filled.proofs.Filling.{Filling}
 use Rattle.filled.proofs.Rows.{blank_zeros}
-use Rattle.workspace.proofs.Setting.{Setting}
-use Rattle.workspace.proofs.Roots.{Rooting}
 use Rattle.workspace.proofs.ViewsIn.{OuterIn}
 use Rattle.workspace.proofs.Tracks.{met_stands, met_room}
 use Rattle.search.proofs.Prepared as prepared
-use borrow.Author.Rules.{rules}
 use Rattle.search.proofs.verdict.Goals as goal
 
 pub fill-requires : goal.fill-requires
@@ -48,10 +44,14 @@ search_roots-requires c =
     let case : case_of c.args.bytes.now ≡ Case.Admitted c.args.shape = c.requires.read in
     let begun : OuterIn ((prepared.setting _ _ case c.edge_list-edges.ensures (c.fill.ensures ((prepared.filling _ _ case c.state_list-states.ensures c.node_list-nodes.ensures))).all_lanes
     c.fill-2.ensures c.guesses-guesses.ensures.0 c.ones-ones.ensures c.requires.sized)) 0 c.args.workspace.now 0 = prepared.started ((prepared.setting _ _ case c.edge_list-edges.ensures (c.fill.ensures ((prepared.filling _ _ case c.state_list-states.ensures c.node_list-nodes.ensures))).all_lanes
-    c.fill-2.ensures c.guesses-guesses.ensures.0 c.ones-ones.ensures c.requires.sized)) _ c.requires.room.0 c.requires.room.1 in
-    ((prepared.setting _ _ case c.edge_list-edges.ensures (c.fill.ensures ((prepared.filling _ _ case c.state_list-states.ensures c.node_list-nodes.ensures))).all_lanes
-    c.fill-2.ensures c.guesses-guesses.ensures.0 c.ones-ones.ensures c.requires.sized), (prepared.rooting _ _ case c.state_list-states.ensures (c.fill.ensures ((prepared.filling _ _ case c.state_list-states.ensures c.node_list-nodes.ensures))).all_rows
-    refl c.guesses-guesses.ensures.0), refl, begun)
+    c.fill-2.ensures c.guesses-guesses.ensures.0 c.ones-ones.ensures c.requires.sized)) _ c.requires.room.0 c.requires.room.1 in (
+      (prepared.setting _ _ case c.edge_list-edges.ensures (c.fill.ensures ((prepared.filling _ _ case c.state_list-states.ensures c.node_list-nodes.ensures))).all_lanes
+          c.fill-2.ensures c.guesses-guesses.ensures.0 c.ones-ones.ensures c.requires.sized),
+      (prepared.rooting _ _ case c.state_list-states.ensures (c.fill.ensures ((prepared.filling _ _ case c.state_list-states.ensures c.node_list-nodes.ensures))).all_rows
+          refl c.guesses-guesses.ensures.0),
+      refl,
+      begun,
+    )
 
 pub show-requires : goal.show-requires
 show-requires c =
@@ -66,7 +66,7 @@ show-requires c =
     c.fill-2.ensures c.guesses-guesses.ensures.0 c.ones-ones.ensures c.requires.sized)) m in
     let few = prepared.places_few _ _ case in record {
       at_outer = met_stands ((prepared.setting _ _ case c.edge_list-edges.ensures (c.fill.ensures ((prepared.filling _ _ case c.state_list-states.ensures c.node_list-nodes.ensures))).all_lanes
-    c.fill-2.ensures c.guesses-guesses.ensures.0 c.ones-ones.ensures c.requires.sized)) m;
+          c.fill-2.ensures c.guesses-guesses.ensures.0 c.ones-ones.ensures c.requires.sized)) m;
       stacked = (
         room.0,
         room.1,
@@ -84,9 +84,9 @@ returns-in-Nothing c =
     record {
       kept = c.search_roots.ensures.kept;
       decides = λ lent. prepared.decides_holds ((prepared.setting _ _ case c.edge_list-edges.ensures (c.fill.ensures ((prepared.filling _ _ case c.state_list-states.ensures c.node_list-nodes.ensures))).all_lanes
-    c.fill-2.ensures c.guesses-guesses.ensures.0 c.ones-ones.ensures c.requires.sized)) (c.search_roots.ensures.nothing ((prepared.setting _ _ case c.edge_list-edges.ensures (c.fill.ensures ((prepared.filling _ _ case c.state_list-states.ensures c.node_list-nodes.ensures))).all_lanes
-    c.fill-2.ensures c.guesses-guesses.ensures.0 c.ones-ones.ensures c.requires.sized)) ((prepared.rooting _ _ case c.state_list-states.ensures (c.fill.ensures ((prepared.filling _ _ case c.state_list-states.ensures c.node_list-nodes.ensures))).all_rows
-    refl c.guesses-guesses.ensures.0)) refl begun c.in-Nothing.is) lent _;
+          c.fill-2.ensures c.guesses-guesses.ensures.0 c.ones-ones.ensures c.requires.sized)) (c.search_roots.ensures.nothing ((prepared.setting _ _ case c.edge_list-edges.ensures (c.fill.ensures ((prepared.filling _ _ case c.state_list-states.ensures c.node_list-nodes.ensures))).all_lanes
+          c.fill-2.ensures c.guesses-guesses.ensures.0 c.ones-ones.ensures c.requires.sized)) ((prepared.rooting _ _ case c.state_list-states.ensures (c.fill.ensures ((prepared.filling _ _ case c.state_list-states.ensures c.node_list-nodes.ensures))).all_rows
+          refl c.guesses-guesses.ensures.0)) refl begun c.in-Nothing.is) lent _;
     }
 
 pub returns-in-Loop : goal.returns-in-Loop
@@ -100,6 +100,6 @@ returns-in-Loop c =
     refl c.guesses-guesses.ensures.0)) refl begun c.in-Loop.outer c.in-Loop.inner c.in-Loop.at c.in-Loop.is in record {
       kept = c.search_roots.ensures.kept;
       decides = prepared.decides_violated ((prepared.setting _ _ case c.edge_list-edges.ensures (c.fill.ensures ((prepared.filling _ _ case c.state_list-states.ensures c.node_list-nodes.ensures))).all_lanes
-    c.fill-2.ensures c.guesses-guesses.ensures.0 c.ones-ones.ensures c.requires.sized)) m c.show.ensures.4 c.show.ensures.5 c.show.ensures.6 c.requires.track_room c.show.result
+          c.fill-2.ensures c.guesses-guesses.ensures.0 c.ones-ones.ensures c.requires.sized)) m c.show.ensures.4 c.show.ensures.5 c.show.ensures.6 c.requires.track_room c.show.result
           c.show.ensures.3;
     }

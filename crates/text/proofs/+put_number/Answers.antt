@@ -1,6 +1,5 @@
 -- `text::put_number` meets its contract: below ten it puts the last digit, and from ten on the digits of the tenth and then the last digit.
 -- Assumes nothing.
-use Prim.Native.Nat.{ℕ, ◌<◌}
 use mathlib.Core.Path.{ap}
 use native.Mathlib.Omega.{arith}
 use lib.ListN.{length}

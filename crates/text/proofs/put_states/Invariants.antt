@@ -1,14 +1,8 @@
 -- `text::put_states` meets its contract. The invariant: the text of the first i states is written from `at` to `next`. The measure is what is
 -- left of the states. Assumes nothing.
-use Prim.Native.Nat.{ℕ, ◌-◌, ◌≤◌}
-use mathlib.Core.List.{List}
-use mathlib.Core.Path.{refl, sym}
-use native.Mathlib.Nat.{add-zero}
-use native.Mathlib.Omega.{arith}
+use Prim.Native.Nat.{◌-◌, ◌≤◌}
 use lib.ListN.{length, take}
-use lib.Seq.{take_all}
 use Rattle.text.specs.Text.{states_text, Written}
-use Rattle.text.proofs.Laws.{written_both, states_more, states_room}
 use Rattle.text.proofs.put_states.Given as goal
 
 abbrev pub invariant-loop-i : goal.invariant-loop-i

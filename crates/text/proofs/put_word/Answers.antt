@@ -1,11 +1,11 @@
 -- `text::put_word` meets its contract. The invariant: the word's first i bytes stand in the array from `at` on. The measure is what is left
 -- of the word. Assumes nothing.
-use Prim.Native.Nat.{ℕ, ◌+◌, ◌-◌, ◌≤◌}
+use Prim.Native.Nat.{ℕ, ◌+◌}
 use mathlib.Core.List.{List}
 use mathlib.Core.Path.{◌≡◌, refl, ap, ◌∙◌}
 use native.Mathlib.Omega.{arith}
-use lib.ListN.{length, get_or, set, take}
-use lib.Seq.{sets, take_all}
+use lib.ListN.{get_or, set, take}
+use lib.Seq.{take_all}
 use Rattle.text.proofs.Laws.{sets_more}
 use Rattle.text.proofs.put_word.Goals as goal
 
@@ -14,7 +14,6 @@ loop-i-init c = (omega arith, refl)
 
 pub loop-i-preserved : goal.loop-i-preserved
 loop-i-preserved c =
-    
     let at : ℕ = c.args.at in
     let word : List ℕ = c.args.word.now in (
       omega arith,

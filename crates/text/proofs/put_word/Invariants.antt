@@ -1,12 +1,9 @@
 -- `text::put_word` meets its contract. The invariant: the word's first i bytes stand in the array from `at` on. The measure is what is left
 -- of the word. Assumes nothing.
-use Prim.Native.Nat.{ℕ, ◌+◌, ◌-◌, ◌≤◌}
-use mathlib.Core.List.{List}
-use mathlib.Core.Path.{◌≡◌, refl, ap, ◌∙◌}
-use native.Mathlib.Omega.{arith}
-use lib.ListN.{length, get_or, set, take}
-use lib.Seq.{sets, take_all}
-use Rattle.text.proofs.Laws.{sets_more}
+use Prim.Native.Nat.{◌-◌, ◌≤◌}
+use mathlib.Core.Path.{◌≡◌}
+use lib.ListN.{length, take}
+use lib.Seq.{sets}
 use Rattle.text.proofs.put_word.Given as goal
 
 abbrev pub invariant-loop-i : goal.invariant-loop-i

@@ -6,7 +6,6 @@ use native.Mathlib.Nat.{add-sub_cancel_left}
 use lib.Seq.{length-take-le}
 use Rattle.text.specs.Text.{verdict_text, holds_text}
 use Rattle.text.proofs.Laws.{written_printed, shown_fits, refused_length, word_digits}
-use borrow.Author.Rules.{rules}
 use Rattle.text.proofs.write.Goals as goal
 
 pub returns-then-number-eq0 : goal.returns-then-number-eq0

@@ -1,6 +1,6 @@
 -- `tracks::clear` meets its contract. The loop's invariant: the entries passed are 0, the rest is as it was. The measure is the entries left.
 -- Assumes nothing.
-use Prim.Native.Nat.{ℕ, ◌-◌, ◌≤◌}
+use Prim.Native.Nat.{ℕ}
 use native.Mathlib.Omega.{arith}
 use mathlib.Core.Path.{◌≡◌, refl, ap, ◌∙◌}
 use mathlib.Core.List.{List, ◌++◌}

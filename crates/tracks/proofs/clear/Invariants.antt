@@ -1,11 +1,9 @@
 -- `tracks::clear` meets its contract. The loop's invariant: the entries passed are 0, the rest is as it was. The measure is the entries left.
 -- Assumes nothing.
-use Prim.Native.Nat.{ℕ, ◌-◌, ◌≤◌}
-use native.Mathlib.Omega.{arith}
-use mathlib.Core.Path.{◌≡◌, refl, ap, ◌∙◌}
-use mathlib.Core.List.{List, ◌++◌}
-use lib.ListN.{length, set, drop, replicate}
-use borrow.Author.Fill.{fill_none, fill_more}
+use Prim.Native.Nat.{◌-◌, ◌≤◌}
+use mathlib.Core.Path.{◌≡◌}
+use mathlib.Core.List.{◌++◌}
+use lib.ListN.{length, drop, replicate}
 use Rattle.tracks.proofs.clear.Given as goal
 
 abbrev pub invariant-loop-cleared : goal.invariant-loop-cleared

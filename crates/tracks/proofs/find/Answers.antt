@@ -1,9 +1,7 @@
 -- `tracks::find` meets its contract. The loop's invariant: the code stands at no index passed; since it stands somewhere, the index stays within
 -- the workspace. The measure is what is left of the workspace. Assumes nothing.
-use Prim.Native.Nat.{ℕ, ◌+◌, ◌-◌, ◌<◌}
+use Prim.Native.Nat.{◌+◌}
 use native.Mathlib.Omega.{arith}
-use mathlib.Core.Path.{◌≡◌}
-use lib.ListN.{length, get_or}
 use borrow.Author.Count.{below_more}
 use Rattle.workspace.proofs.Tracks.{stands_later}
 use Rattle.tracks.proofs.find.Goals as goal

@@ -1,9 +1,7 @@
 -- `tracks::write` meets its contract. The loop's invariant: so many states are written, the rest of the track is as it was. The measure is
 -- the states left. Assumes nothing.
-use Prim.Native.Nat.{ℕ, ◌-◌, ◌≤◌}
-use native.Mathlib.Omega.{arith}
-use mathlib.Core.Path.{◌≡◌, subst}
-use Rattle.workspace.proofs.Tracks.{Wrote, wrote_none, wrote_more}
+use Prim.Native.Nat.{◌-◌, ◌≤◌}
+use Rattle.workspace.proofs.Tracks.{Wrote}
 use Rattle.tracks.proofs.write.Given as goal
 
 abbrev pub invariant-loop-i : goal.invariant-loop-i

@@ -3,9 +3,7 @@ use Prim.Native.Nat.{◌+◌, ◌/◌, ◌<◌}
 use mathlib.Core.Path.{◌≡◌, sym, ap, ◌∙◌}
 use native.Mathlib.Omega.{arith}
 use lib.ListN.{length}
-use borrow.Author.Rules.{rules}
 use borrow.Author.Tests.{leb-false, not-true, not-false}
-use Rattle.meaning.specs.Table.{Table}
 use Rattle.reading.specs.Parts.{initial_of}
 use Rattle.reading.proofs.Lowest.{lowest_passed}
 use Rattle.scratch.proofs.Scratch.{at, table_from}
@@ -15,13 +13,11 @@ use Rattle.judge.proofs.refuse.check_stored.Goals as goal
 
 pub returns-then-outside-k : goal.returns-then-outside-k
 returns-then-outside-k c =
-    
     let a = c.args in
     refused_52 ((table_from c.args.states.now c.args.edges.now)) a.track.now a.k a.m a.room _ c.lowest_outside-outside.ensures (omega arith)
 
 pub initial-requires : goal.initial-requires
 initial-requires c =
-    
     let a = c.args in
     let test = outside ((table_from c.args.states.now c.args.edges.now)) a.track.now in
     let here : 0 < c.lowest_outside-outside.result = omega arith in

@@ -1,9 +1,8 @@
 -- `judge::refuse::lowest_gap` meets its contract. The loop's invariant: every entry passed has an edge to the one after it. The measure is
 -- what is left of the entries. Assumes nothing.
-use Prim.Native.Nat.{ℕ, suc, ◌+◌, ◌-◌, ◌≤◌, ◌<◌}
+use Prim.Native.Nat.{suc}
 use mathlib.Core.Path.{◌≡◌, sym, ap, ap₂, ◌∙◌}
-use mathlib.Core.Bool.{Bool, false, not}
-use mathlib.Core.List.{List}
+use mathlib.Core.Bool.{false, not}
 use native.Mathlib.Omega.{arith}
 use borrow.Author.Count.{below_more}
 use Rattle.meaning.specs.Runs.{position}
@@ -19,7 +18,6 @@ loop-here-init c = (omega arith, λ j h. absurd (omega arith))
 
 pub entry-requires-in-loop-here : goal.entry-requires-in-loop-here
 entry-requires-in-loop-here c =
-    
     let below = position_below c.args.k c.args.m c.requires.0 (suc c.loop-here.here) in
     omega (arith, below, c.after-next.ensures, c.requires.1)
 

@@ -1,15 +1,11 @@
 -- `judge::refuse::lowest_gap` meets its contract. The loop's invariant: every entry passed has an edge to the one after it. The measure is
 -- what is left of the entries. Assumes nothing.
 use Prim.Native.Nat.{ℕ, suc, ◌+◌, ◌-◌, ◌≤◌, ◌<◌}
-use mathlib.Core.Path.{◌≡◌, sym, ap, ap₂, ◌∙◌}
+use mathlib.Core.Path.{◌≡◌}
 use mathlib.Core.Bool.{Bool, false, not}
 use mathlib.Core.List.{List}
-use native.Mathlib.Omega.{arith}
-use borrow.Author.Count.{below_more}
 use Rattle.meaning.specs.Runs.{position}
-use Rattle.meaning.proofs.Positions.{position_below}
 use Rattle.reading.specs.Parts.{has_edge}
-use Rattle.reading.proofs.Lowest.{lowest_is}
 use Rattle.scratch.proofs.Scratch.{at}
 use Rattle.judge.proofs.refuse.lowest_gap.Given as goal
 

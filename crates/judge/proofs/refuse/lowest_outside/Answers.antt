@@ -1,6 +1,5 @@
 -- `judge::refuse::lowest_outside` meets its contract. The loop's invariant: every entry passed is a state. The measure is what is left of
 -- the count. Assumes nothing.
-use Prim.Native.Nat.{ℕ, ◌-◌, ◌≤◌, ◌<◌}
 use mathlib.Core.Path.{◌≡◌}
 use mathlib.Core.Bool.{false}
 use native.Mathlib.Omega.{arith}

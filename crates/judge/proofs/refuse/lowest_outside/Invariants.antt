@@ -3,11 +3,7 @@
 use Prim.Native.Nat.{ℕ, ◌-◌, ◌≤◌, ◌<◌}
 use mathlib.Core.Path.{◌≡◌}
 use mathlib.Core.Bool.{false}
-use native.Mathlib.Omega.{arith}
 use lib.Dec.{leb}
-use borrow.Author.Count.{below_more}
-use borrow.Author.Tests.{le-leb, lt-leb}
-use Rattle.reading.proofs.Lowest.{lowest_is}
 use Rattle.scratch.proofs.Scratch.{at}
 use Rattle.judge.proofs.refuse.lowest_outside.Given as goal
 

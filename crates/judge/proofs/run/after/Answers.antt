@@ -2,7 +2,6 @@
 use mathlib.Core.Path.{sym, ap, ◌∙◌}
 use native.Mathlib.Numerals.{add-one}
 use native.Mathlib.Omega.{arith}
-use borrow.Author.Rules.{rules}
 use Rattle.meaning.specs.Runs.{position}
 use Rattle.meaning.proofs.Loops.{position_in}
 use Rattle.meaning.proofs.Positions.{position_closes}

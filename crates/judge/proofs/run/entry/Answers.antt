@@ -1,6 +1,5 @@
 -- `judge::run::entry` meets its contract. Assumes nothing.
 use native.Mathlib.Omega.{arith}
-use borrow.Author.Rules.{rules}
 use Rattle.judge.proofs.run.entry.Goals as goal
 
 pub overflow_cast-result : goal.overflow_cast-result

@@ -1,5 +1,5 @@
 -- The entries are the values of the first n-1 nodes after the call of itself, and with node n-1's added those of the first n. Assumes nothing.
-use Prim.Native.Nat.{ℕ, suc, ◌+◌, ◌-◌, ◌<◌}
+use Prim.Native.Nat.{ℕ, suc, ◌+◌, ◌-◌}
 use mathlib.Core.Path.{◌≡◌, sym, ap, ◌∙◌, subst}
 use native.Mathlib.Omega.{arith}
 use Rattle.rule.proofs.Entries.{entries}

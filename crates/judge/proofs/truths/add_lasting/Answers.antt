@@ -1,9 +1,8 @@
 -- `judge::truths::add_lasting` meets its contract. The loop's invariant: `next` is the truth at entry i that a pass from the seed has
 -- carried there; from i on the truth of each entry is added, and the entries below i are as they were. The measure is i. Assumes nothing.
-use Prim.Native.Nat.{ℕ, ◌-◌, ◌≤◌}
+use Prim.Native.Nat.{ℕ, ◌-◌}
 use mathlib.Core.Path.{◌≡◌, ap, ap₂, ◌∙◌, subst}
 use mathlib.Core.Bool.{Bool, ◌&&◌, ◌||◌}
-use mathlib.Core.List.{List}
 use native.Mathlib.Omega.{arith}
 use lib.Dec.{eqb}
 use Rattle.bits.specs.Bits.{bit}
@@ -12,7 +11,7 @@ use Rattle.meaning.specs.Laws.{now, stay}
 use Rattle.rule.proofs.Passes.{pass}
 use Rattle.judge.specs.declared.truths.Node.{Node}
 use Rattle.judge.specs.Node.{node_is}
-use Rattle.scratch.proofs.Scratch.{at, added, now_in, stay_in, Stored}
+use Rattle.scratch.proofs.Scratch.{added, now_in, stay_in, Stored}
 use Rattle.scratch.proofs.Bits.{pass_digit}
 use Rattle.scratch.proofs.Stores.{stored_none, stored_down}
 use Rattle.judge.proofs.truths.add_lasting.Invariants.{carried_to, entry}
@@ -33,7 +32,6 @@ stepped node next w =
 
 pub with_bit-requires : goal.with_bit-requires
 with_bit-requires c =
-
     let at-loop = c.loop-i in
     let old = at-loop.invariant.3.under (at-loop.i - 1) (omega arith) in
     (omega arith, rw old (c.requires.2.below (at-loop.i - 1) (omega arith)), c.carried-next.ensures.1)

@@ -1,20 +1,15 @@
 -- `judge::truths::add_lasting` meets its contract. The loop's invariant: `next` is the truth at entry i that a pass from the seed has
 -- carried there; from i on the truth of each entry is added, and the entries below i are as they were. The measure is i. Assumes nothing.
 use Prim.Native.Nat.{ℕ, ◌-◌, ◌≤◌}
-use mathlib.Core.Path.{◌≡◌, ap, ap₂, ◌∙◌, subst}
-use mathlib.Core.Bool.{Bool, ◌&&◌, ◌||◌}
+use mathlib.Core.Path.{◌≡◌}
+use mathlib.Core.Bool.{Bool}
 use mathlib.Core.List.{List}
-use native.Mathlib.Omega.{arith}
 use lib.Dec.{eqb}
-use Rattle.bits.specs.Bits.{bit}
-use Rattle.bits.proofs.Bit.{digit, digit_eqb, eqb_digit}
-use Rattle.meaning.specs.Laws.{now, stay}
+use Rattle.bits.proofs.Bit.{digit}
 use Rattle.rule.proofs.Passes.{pass}
 use Rattle.judge.specs.declared.truths.Node.{Node}
 use Rattle.judge.specs.Node.{node_is}
 use Rattle.scratch.proofs.Scratch.{at, added, now_in, stay_in, Stored}
-use Rattle.scratch.proofs.Bits.{pass_digit}
-use Rattle.scratch.proofs.Stores.{stored_none, stored_down}
 use Rattle.judge.proofs.truths.add_lasting.Given as goal
 
 -- the truth that the pass carries to entry i, and the entry with it

@@ -1,17 +1,11 @@
 -- `judge::truths::add_next` meets its contract. The loop's invariant: below i each entry has its operand's truth at the next entry
 -- added, and the others are as they were; a lower bit is the same in both. The measure is what is left of the entries. Assumes nothing.
-use Prim.Native.Nat.{ℕ, suc, ◌+◌, ◌-◌, ◌≤◌, ◌<◌}
-use mathlib.Core.Path.{◌≡◌, ap, ap₂, ◌∙◌, subst}
+use Prim.Native.Nat.{ℕ, suc, ◌+◌, ◌-◌, ◌≤◌}
 use mathlib.Core.Bool.{Bool}
 use mathlib.Core.List.{List}
-use native.Mathlib.Omega.{arith}
-use lib.Dec.{eqb}
 use Rattle.bits.specs.Bits.{bit}
-use Rattle.bits.proofs.Bit.{digit, eqb_digit}
 use Rattle.meaning.specs.Runs.{position}
-use Rattle.meaning.proofs.Positions.{position_below}
 use Rattle.scratch.proofs.Scratch.{at, added, Stored}
-use Rattle.scratch.proofs.Stores.{stored_none, stored_up, lower_bit_kept}
 use Rattle.judge.proofs.truths.add_next.Given as goal
 
 -- the operand's truth at the entry after i

@@ -1,7 +1,6 @@
 -- `judge::truths::add_node` meets its contract: each of the three ways leaves the values with node n's added (`Telling`). Assumes nothing.
 use Prim.Native.Nat.{◌+◌}
 use native.Mathlib.Omega.{arith}
-use borrow.Author.Rules.{rules}
 use Rattle.judge.specs.Node.{node_is}
 use Rattle.scratch.proofs.Scratch.{Adding, Known}
 use Rattle.scratch.proofs.Telling.{adding, known_node, next_lower, left_by_plain, left_by_next, left_by_passes}
@@ -20,7 +19,6 @@ add_plain-requires c =
 
 pub returns-then-operator-lt6 : goal.returns-then-operator-lt6
 returns-then-operator-lt6 c =
-    
     let a = c.args in
     let p = c.requires in
     left_by_plain a.states.now a.nodes.now a.track.now a.k a.m a.n a.scratch.now p.0 p.1 p.2
@@ -46,7 +44,6 @@ add_next-requires c =
 
 pub returns-then-operator-eq6 : goal.returns-then-operator-eq6
 returns-then-operator-eq6 c =
-    
     let a = c.args in
     let p = c.requires in
     left_by_next a.states.now a.nodes.now a.track.now a.k a.m a.n a.scratch.now p.0 p.1 p.2
@@ -73,7 +70,6 @@ add_lasting-requires c =
 
 pub returns : goal.returns
 returns c =
-    
     let a = c.args in
     let p = c.requires in
     left_by_passes a.states.now a.nodes.now a.track.now a.k a.m a.n a.scratch.now p.0 p.1 p.2

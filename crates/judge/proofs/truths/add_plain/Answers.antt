@@ -1,13 +1,10 @@
 -- `judge::truths::add_plain` meets its contract. The loop's invariant: below i each entry has the node's truth added, and the others
 -- are as they were. The measure is what is left of the entries. Assumes nothing.
-use Prim.Native.Nat.{ℕ, ◌-◌, ◌≤◌}
+use Prim.Native.Nat.{ℕ}
 use mathlib.Core.Path.{◌≡◌, ap, ap₂, ◌∙◌, subst}
 use native.Mathlib.Omega.{arith}
-use Rattle.bits.specs.Bits.{bit}
-use Rattle.meaning.specs.Laws.{plain}
 use Rattle.reading.specs.Parts.{label_of}
-use Rattle.judge.specs.declared.truths.Node.{Node}
-use Rattle.scratch.proofs.Scratch.{at, added, labels_of, Stored}
+use Rattle.scratch.proofs.Scratch.{at, labels_of, Stored}
 use Rattle.scratch.proofs.Stores.{stored_none, stored_up}
 use Rattle.judge.proofs.truths.add_plain.Invariants.{entry}
 use Rattle.judge.proofs.truths.add_plain.Goals as goal
@@ -17,13 +14,11 @@ loop-i-init c = (omega arith, stored_none 0 _ c.args.scratch.now)
 
 pub label-label-requires : goal.label-label-requires
 label-label-requires c =
-
     rw c.entry.ensures (c.requires.3.labelled c.loop-i.i (omega arith))
 
 pub plain_added-requires : goal.plain_added-requires
 plain_added-requires c =
-    let at-loop = c.loop-i in
-     (
+    let at-loop = c.loop-i in (
       c.requires.0,
       c.requires.1,
       c.requires.2.narrow,

@@ -1,14 +1,10 @@
 -- `judge::truths::add_plain` meets its contract. The loop's invariant: below i each entry has the node's truth added, and the others
 -- are as they were. The measure is what is left of the entries. Assumes nothing.
 use Prim.Native.Nat.{ℕ, ◌-◌, ◌≤◌}
-use mathlib.Core.Path.{◌≡◌, ap, ap₂, ◌∙◌, subst}
-use native.Mathlib.Omega.{arith}
 use Rattle.bits.specs.Bits.{bit}
 use Rattle.meaning.specs.Laws.{plain}
-use Rattle.reading.specs.Parts.{label_of}
 use Rattle.judge.specs.declared.truths.Node.{Node}
 use Rattle.scratch.proofs.Scratch.{at, added, labels_of, Stored}
-use Rattle.scratch.proofs.Stores.{stored_none, stored_up}
 use Rattle.judge.proofs.truths.add_plain.Given as goal
 
 -- an entry with the node's truth there

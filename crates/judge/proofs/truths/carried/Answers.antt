@@ -1,8 +1,6 @@
 -- `judge::truths::carried` meets its contract: `now` and `stay` of one truth value, and one step of a pass. Assumes nothing.
 use mathlib.Core.Bool.{Bool, ◌&&◌, ◌||◌}
-use native.Mathlib.Omega.{arith}
 use lib.Dec.{eqb}
-use borrow.Author.Rules.{rules}
 use Rattle.bits.specs.Bits.{bit}
 use Rattle.meaning.specs.Laws.{now, stay}
 use Rattle.scratch.proofs.Bits.{small_digit, word_of_two, step_digit}

@@ -1,10 +1,10 @@
 -- `judge::truths::clear` meets its contract. The loop's invariant: the entries passed are 0 and the others are as they were. The
 -- measure is what is left of the count. Assumes nothing.
-use Prim.Native.Nat.{ℕ, ◌≤◌, ◌<◌, ◌-◌}
+use Prim.Native.Nat.{ℕ, ◌<◌}
 use mathlib.Core.Path.{◌≡◌, refl, ap, ◌∙◌}
-use mathlib.Core.List.{List, ◌++◌}
+use mathlib.Core.List.{List}
 use native.Mathlib.Omega.{arith}
-use lib.ListN.{length, drop, set, replicate, length-set}
+use lib.ListN.{length, set, length-set}
 use borrow.Author.Fill.{fill_none, fill_more}
 use Rattle.judge.proofs.truths.clear.Goals as goal
 

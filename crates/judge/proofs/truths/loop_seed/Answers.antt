@@ -1,6 +1,6 @@
 -- `judge::truths::loop_seed` meets its contract. The loop's invariant: `next` is the truth at entry i that a pass from the pole has
 -- carried there. The measure is i. Assumes nothing.
-use Prim.Native.Nat.{ℕ, ◌+◌, ◌-◌, ◌≤◌}
+use Prim.Native.Nat.{ℕ, ◌+◌, ◌-◌}
 use mathlib.Core.Path.{◌≡◌, ap, ◌∙◌}
 use native.Mathlib.Omega.{arith}
 use Rattle.bits.proofs.Bit.{digit}

@@ -1,15 +1,12 @@
 -- `judge::truths::loop_seed` meets its contract. The loop's invariant: `next` is the truth at entry i that a pass from the pole has
 -- carried there. The measure is i. Assumes nothing.
-use Prim.Native.Nat.{ℕ, ◌+◌, ◌-◌, ◌≤◌}
-use mathlib.Core.Path.{◌≡◌, ap, ◌∙◌}
-use native.Mathlib.Omega.{arith}
+use Prim.Native.Nat.{◌+◌, ◌-◌, ◌≤◌}
+use mathlib.Core.Path.{◌≡◌}
 use Rattle.bits.proofs.Bit.{digit}
 use Rattle.meaning.specs.Laws.{greatest}
-use Rattle.bits.proofs.Word.{word_of_one}
-use Rattle.rule.proofs.Passes.{pass, seed}
+use Rattle.rule.proofs.Passes.{pass}
 use Rattle.judge.specs.Node.{node_is}
 use Rattle.scratch.proofs.Scratch.{now_in, stay_in}
-use Rattle.scratch.proofs.Bits.{small_digit, pass_digit}
 use Rattle.judge.proofs.truths.loop_seed.Given as goal
 
 abbrev pub invariant-loop-i : goal.invariant-loop-i

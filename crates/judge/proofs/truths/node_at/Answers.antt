@@ -1,5 +1,4 @@
 -- `judge::truths::node_at` meets its contract: a node is its three bytes. Assumes nothing.
-use borrow.Author.Rules.{rules}
 use Rattle.reading.specs.Parts.{node_of}
 use Rattle.judge.proofs.truths.node_at.Goals as goal
 

@@ -1,10 +1,8 @@
 -- `judge::truths::plain_added` meets its contract: the node's truth of one truth value each, added above the word. Assumes nothing.
 use Prim.Native.Nat.{ℕ}
 use mathlib.Core.Path.{◌≡◌, ap, ◌∙◌}
-use mathlib.Core.Bool.{Bool}
 use native.Mathlib.Omega.{arith}
 use lib.Dec.{eqb}
-use borrow.Author.Rules.{rules}
 use Rattle.bits.specs.Bits.{bit}
 use Rattle.bits.proofs.Bit.{digit, eqb_digit}
 use Rattle.meaning.specs.Laws.{plain}
@@ -18,9 +16,12 @@ with_bit-requires c =
     plain a.node.operator (bit a.label a.node.first) (bit a.word a.node.first) (bit a.word a.node.second))) = let a = c.args in
     word_of_three (plain a.node.operator) (bit a.label a.node.first) (bit a.word a.node.first)
     (bit a.word a.node.second) c.plain_word-bit.ensures c.truth-atom.ensures.0
-    c.truth.ensures.0 c.truth-2.ensures.0 in
-    (omega arith, omega arith, small_digit ((let a = c.args in
-    plain a.node.operator (bit a.label a.node.first) (bit a.word a.node.first) (bit a.word a.node.second))) made)
+    c.truth.ensures.0 c.truth-2.ensures.0 in (
+      omega arith,
+      omega arith,
+      small_digit ((let a = c.args in
+          plain a.node.operator (bit a.label a.node.first) (bit a.word a.node.first) (bit a.word a.node.second))) made,
+    )
 
 pub returns : goal.returns
 returns c =

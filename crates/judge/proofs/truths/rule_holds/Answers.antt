@@ -6,7 +6,6 @@ use mathlib.Core.List.{List}
 use native.Mathlib.Omega.{arith}
 use lib.Dec.{eqb}
 use lib.ListN.{length}
-use borrow.Author.Rules.{rules}
 use Rattle.bits.specs.Bits.{bit}
 use Rattle.bits.proofs.Bit.{digit, eqb_digit}
 use Rattle.rule.proofs.Entries.{entries}
@@ -18,7 +17,6 @@ use Rattle.judge.proofs.truths.rule_holds.Goals as goal
 
 pub truths-requires : goal.truths-requires
 truths-requires c =
-    
     let a = c.args in
     let e = c.clear.ensures in
     let same : length c.clear.new.scratch ≡ length a.scratch.now =
@@ -30,7 +28,6 @@ truths-requires c =
 
 pub returns : goal.returns
 returns c =
-    
     let a = c.args in
     let value = entries (node_of a.nodes.now) (labels_of a.states.now a.track.now) a.k a.m (node_count a.nodes.now) in
     let e = c.clear.ensures in (

@@ -1,6 +1,5 @@
 -- `judge::truths::truth` meets its contract: `(word >> j) & 1` is bit j as a digit. Assumes nothing.
 use native.Mathlib.Omega.{arith}
-use borrow.Author.Rules.{rules}
 use Rattle.bits.proofs.Bit.{test_bit}
 use Rattle.bits.specs.Bits.{bit}
 use Rattle.scratch.proofs.Bits.{digit_small, small_digit}

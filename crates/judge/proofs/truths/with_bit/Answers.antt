@@ -2,7 +2,6 @@
 use mathlib.Core.Path.{ap}
 use Prim.Native.Nat.{ℕ, ◌+◌}
 use lib.Dec.{eqb}
-use borrow.Author.Rules.{rules}
 use Rattle.scratch.proofs.Bits.{shifted_bit, added_fits}
 use Rattle.judge.proofs.truths.with_bit.Goals as goal
 

@@ -1,10 +1,9 @@
 -- `lanes::starts::fill` meets its contract. The loop's invariant: the entries below s are right, and the edges below e leave lower
 -- states than s. The measure is what is left of the states. Assumes nothing.
 use mathlib.Core.Path.{◌≡◌}
-use Prim.Native.Nat.{◌+◌, ◌-◌, ◌≤◌}
+use Prim.Native.Nat.{◌+◌}
 use native.Mathlib.Omega.{arith}
-use lib.ListN.{length, length-set}
-use Rattle.filled.proofs.Filling.{Started}
+use lib.ListN.{length-set}
 use Rattle.filled.proofs.Edges.{started_none, started_more, started_all}
 use Rattle.lanes.proofs.starts.fill.Goals as goal
 
@@ -22,8 +21,7 @@ bounds-starts-s c = omega (arith, c.requires.0.few_states)
 
 pub loop-s-preserved : goal.loop-s-preserved
 loop-s-preserved c =
-    let at = c.loop-s in
-     (
+    let at = c.loop-s in (
       omega arith,
       simp length-set at.invariant.1,
       started_more c.requires.0 at.s at.e c.skip-e.result at.starts c.skip-e.ensures at.invariant.2

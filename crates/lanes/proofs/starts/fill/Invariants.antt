@@ -2,10 +2,8 @@
 -- states than s. The measure is what is left of the states. Assumes nothing.
 use mathlib.Core.Path.{◌≡◌}
 use Prim.Native.Nat.{◌+◌, ◌-◌, ◌≤◌}
-use native.Mathlib.Omega.{arith}
-use lib.ListN.{length, length-set}
+use lib.ListN.{length}
 use Rattle.filled.proofs.Filling.{Started}
-use Rattle.filled.proofs.Edges.{started_none, started_more, started_all}
 use Rattle.lanes.proofs.starts.fill.Given as goal
 
 abbrev pub invariant-loop-s : goal.invariant-loop-s

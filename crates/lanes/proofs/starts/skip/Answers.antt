@@ -1,9 +1,9 @@
 -- `lanes::starts::skip` meets its contract. The loop's invariant: the edges passed leave lower states. The measure is what is left of
 -- the edges. Assumes nothing.
-use Prim.Native.Nat.{ℕ, ◌-◌, ◌≤◌, ◌<◌}
+use Prim.Native.Nat.{◌≤◌, ◌<◌}
 use native.Mathlib.Omega.{arith}
 use borrow.Author.Count.{below_more}
-use Rattle.reading.specs.Parts.{edge_count, from_of}
+use Rattle.reading.specs.Parts.{from_of}
 use Rattle.lanes.proofs.starts.skip.Goals as goal
 
 pub loop-at-init : goal.loop-at-init

@@ -1,8 +1,6 @@
 -- `lanes::starts::skip` meets its contract. The loop's invariant: the edges passed leave lower states. The measure is what is left of
 -- the edges. Assumes nothing.
 use Prim.Native.Nat.{ℕ, ◌-◌, ◌≤◌, ◌<◌}
-use native.Mathlib.Omega.{arith}
-use borrow.Author.Count.{below_more}
 use Rattle.reading.specs.Parts.{edge_count, from_of}
 use Rattle.lanes.proofs.starts.skip.Given as goal
 

@@ -1,7 +1,6 @@
 -- `reading::parts::byte` meets its contract. A byte is below 256, which the slice's rule gives. Assumes nothing.
 use mathlib.Core.Path.{refl}
 use native.Mathlib.Omega.{arith}
-use borrow.Author.Rules.{rules}
 use Rattle.reading.proofs.parts.byte.Goals as goal
 
 pub overflow_cast-result : goal.overflow_cast-result

@@ -6,7 +6,6 @@ use mathlib.Core.List.{List}
 use mathlib.Core.Bool.{cond}
 use lib.Dec.{eqb}
 use lib.ListN.{get_or}
-use borrow.Author.Rules.{rules}
 use Rattle.reading.specs.Parts.{from_of, to_of}
 use Rattle.reading.proofs.parts.end.Goals as goal
 

@@ -1,6 +1,5 @@
 -- `reading::parts::flags` meets its contract. By definition. Assumes nothing.
 use mathlib.Core.Path.{refl}
-use borrow.Author.Rules.{rules}
 use Rattle.reading.specs.Parts.{flags_of}
 use Rattle.reading.proofs.parts.flags.Goals as goal
 

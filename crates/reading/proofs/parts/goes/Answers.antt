@@ -1,6 +1,5 @@
 -- `reading::parts::goes` meets its contract. The two tests are the definition's, in its order. Assumes nothing.
 use borrow.Author.Tests.{eq-eqb, ne_eqb}
-use borrow.Author.Rules.{rules}
 use Rattle.reading.proofs.parts.goes.Goals as goal
 
 pub returns-then-end-x : goal.returns-then-end-x

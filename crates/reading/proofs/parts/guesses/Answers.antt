@@ -5,7 +5,6 @@ use mathlib.Core.Path.{◌≡◌, ◌∙◌}
 use native.Mathlib.Nat.{one-mul, le_trans, le_of_eq}
 use native.Mathlib.Omega.{arith}
 use lib.Pow.{shl_exact, pow_mono}
-use borrow.Author.Rules.{rules}
 use Rattle.reading.proofs.parts.guesses.Goals as goal
 
 power : (c : goal.Start) → (1 * 2 ^ c.args.temporals) % 2 ^ 64 ≡ 2 ^ c.args.temporals

@@ -1,12 +1,9 @@
 -- `reading::parts::has_edge` meets its contract. The loop's invariant: no edge passed goes from x to y. The measure is how
 -- many are left. Assumes nothing.
-use Prim.Native.Nat.{ℕ, ◌-◌, ◌≤◌, ◌<◌}
-use mathlib.Core.Bool.{false, ◌&&◌}
-use mathlib.Core.Path.{◌≡◌, sym, ◌∙◌}
+use mathlib.Core.Path.{sym, ◌∙◌}
 use native.Mathlib.Omega.{arith}
-use lib.Dec.{eqb}
 use borrow.Author.Count.{below_more}
-use Rattle.reading.specs.Parts.{from_of, to_of, has_edge}
+use Rattle.reading.specs.Parts.{has_edge}
 use Rattle.reading.proofs.Lowest.{any_found, any_none}
 use Rattle.reading.proofs.parts.has_edge.Goals as goal
 

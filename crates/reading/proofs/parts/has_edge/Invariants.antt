@@ -2,12 +2,9 @@
 -- many are left. Assumes nothing.
 use Prim.Native.Nat.{ℕ, ◌-◌, ◌≤◌, ◌<◌}
 use mathlib.Core.Bool.{false, ◌&&◌}
-use mathlib.Core.Path.{◌≡◌, sym, ◌∙◌}
-use native.Mathlib.Omega.{arith}
+use mathlib.Core.Path.{◌≡◌}
 use lib.Dec.{eqb}
-use borrow.Author.Count.{below_more}
-use Rattle.reading.specs.Parts.{from_of, to_of, has_edge}
-use Rattle.reading.proofs.Lowest.{any_found, any_none}
+use Rattle.reading.specs.Parts.{from_of, to_of}
 use Rattle.reading.proofs.parts.has_edge.Given as goal
 
 abbrev pub invariant-loop-e : goal.invariant-loop-e

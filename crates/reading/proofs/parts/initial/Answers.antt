@@ -2,7 +2,6 @@
 use Prim.Native.Nat.{ℕ}
 use mathlib.Core.Path.{ap}
 use lib.Dec.{eqb}
-use borrow.Author.Rules.{rules}
 use Rattle.reading.specs.Parts.{initial_of}
 use Rattle.reading.proofs.parts.initial.Goals as goal
 

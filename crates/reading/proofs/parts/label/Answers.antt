@@ -1,6 +1,5 @@
 -- `reading::parts::label` meets its contract. The two bytes make a number below 65,536. Assumes nothing.
 use native.Mathlib.Omega.{arith}
-use borrow.Author.Rules.{rules}
 use Rattle.reading.specs.Parts.{label_of}
 use Rattle.reading.proofs.parts.label.Goals as goal
 

@@ -1,6 +1,5 @@
 -- `reading::parts::node_list` meets its contract. The offsets are the admitted case's (`Spans`). Assumes nothing.
 use native.Mathlib.Omega.{arith}
-use borrow.Author.Rules.{rules}
 use Rattle.reading.proofs.Spans.{Spans, spans, nodes_lie}
 use Rattle.reading.proofs.parts.node_list.Goals as goal
 

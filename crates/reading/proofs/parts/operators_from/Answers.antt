@@ -1,11 +1,10 @@
 -- `reading::parts::operators_from` meets its contract. The loop's invariant: the total is the count over the nodes passed,
 -- and at most their number. The measure is how many are left. Assumes nothing.
-use Prim.Native.Nat.{ℕ, ◌+◌, ◌-◌, ◌≤◌}
+use Prim.Native.Nat.{ℕ, ◌+◌}
 use mathlib.Core.Bool.{cond, ◌&&◌}
-use mathlib.Core.Path.{◌≡◌, refl, sym, ap, ap₂, ◌∙◌}
+use mathlib.Core.Path.{refl, sym, ap, ap₂, ◌∙◌}
 use native.Mathlib.Omega.{arith}
 use lib.Dec.{leb}
-use borrow.Author.Rules.{rules}
 use Rattle.reading.specs.Lowest.{count as count'}
 use Rattle.reading.specs.Parts.{operator_from, operators_from}
 use Rattle.reading.proofs.Lowest.{count_more}

@@ -1,7 +1,6 @@
 -- `reading::parts::places` meets its contract. The product is at most 64 · 16 · 5. Assumes nothing.
 use native.Mathlib.Nat.{lt_of_le_of_lt, mul-le-mul, add-le-add, le_refl}
 use native.Mathlib.Omega.{arith}
-use borrow.Author.Rules.{rules}
 use Rattle.reading.proofs.parts.places.Goals as goal
 
 pub overflow_mul-result : goal.overflow_mul-result

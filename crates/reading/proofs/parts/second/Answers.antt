@@ -1,5 +1,4 @@
 -- `reading::parts::second` meets its contract. By what `byte` ensures. Assumes nothing.
-use borrow.Author.Rules.{rules}
 use Rattle.reading.specs.Parts.{node_of}
 use Rattle.reading.proofs.parts.second.Goals as goal
 

@@ -1,5 +1,4 @@
 -- `reading::refuse::bad_edge` meets its contract. By cases on the first test. Assumes nothing.
-use borrow.Author.Rules.{rules}
 use Rattle.reading.proofs.refuse.bad_edge.Goals as goal
 
 pub returns-then-bad_end : goal.returns-then-bad_end

@@ -1,6 +1,5 @@
 -- `reading::refuse::bad_end` meets its contract. By cases on the two tests. Assumes nothing.
 use borrow.Author.Tests.{le-leb, lt-leb}
-use borrow.Author.Rules.{rules}
 use Rattle.reading.specs.Refusals.{bad_end}
 use Rattle.reading.proofs.refuse.bad_end.Goals as goal
 

@@ -1,5 +1,4 @@
 -- `reading::refuse::bad_node` meets its contract. By cases on the first test. Assumes nothing.
-use borrow.Author.Rules.{rules}
 use Rattle.reading.proofs.refuse.bad_node.Goals as goal
 
 pub returns-then-is_unknown : goal.returns-then-is_unknown

@@ -1,6 +1,5 @@
 -- `reading::refuse::bad_state` meets its contract. By cases on the two tests. Assumes nothing.
 use borrow.Author.Tests.{eq-eqb, ne_eqb}
-use borrow.Author.Rules.{rules}
 use Rattle.reading.specs.Refusals.{bad_state}
 use Rattle.reading.proofs.refuse.bad_state.Goals as goal
 

@@ -1,5 +1,4 @@
 -- `reading::refuse::check_dead_ends` meets its contract. By where the walk ended. Assumes nothing.
-use borrow.Author.Rules.{rules}
 use Rattle.reading.specs.declared.CaseRefusal.TheVariants.{DeadEnd}
 use Rattle.reading.specs.Refusals.{dead_end_refusal}
 use Rattle.reading.proofs.Rows.{refused_at, none_refused}

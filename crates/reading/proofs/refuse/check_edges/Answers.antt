@@ -1,6 +1,5 @@
 -- `reading::refuse::check_edges` meets its contract. By where the walk ended. Assumes nothing.
 use mathlib.Core.Path.{sym, ◌∙◌}
-use borrow.Author.Rules.{rules}
 use Rattle.reading.proofs.Rows.{refused_end, refused_order, no_edge_refused}
 use Rattle.reading.proofs.refuse.check_edges.Goals as goal
 

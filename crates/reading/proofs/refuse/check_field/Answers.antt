@@ -1,7 +1,6 @@
 -- `reading::refuse::check_field` meets its contract. Each return rewrites the definition with the tests that led there.
 -- Assumes nothing.
 use borrow.Author.Tests.{lt-ltb, le-ltb}
-use borrow.Author.Rules.{rules}
 use Rattle.reading.specs.Refusals.{field_refusal}
 use Rattle.reading.proofs.refuse.check_field.Goals as goal
 

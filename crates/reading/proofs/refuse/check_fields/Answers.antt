@@ -2,7 +2,6 @@
 -- passed is there to be read (`Fields`). Assumes nothing.
 use mathlib.Core.Path.{sym, ◌∙◌}
 use native.Mathlib.Omega.{arith}
-use borrow.Author.Rules.{rules}
 use Rattle.reading.specs.Refusals.{fields_refusal, at04}
 use Rattle.reading.proofs.Fields.{field_passed, first_there}
 use Rattle.reading.proofs.refuse.check_fields.Goals as goal

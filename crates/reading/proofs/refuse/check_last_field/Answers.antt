@@ -3,7 +3,6 @@
 use mathlib.Core.Path.{sym, ◌∙◌}
 use native.Mathlib.Omega.{arith}
 use borrow.Author.Tests.{lt-ltb, le-ltb}
-use borrow.Author.Rules.{rules}
 use Rattle.reading.specs.Refusals.{last_refusal}
 use Rattle.reading.proofs.Fields.{field_passed}
 use Rattle.reading.proofs.refuse.check_last_field.Goals as goal

@@ -1,6 +1,5 @@
 -- `reading::refuse::check_nodes` meets its contract. By where the walk ended. Assumes nothing.
 use mathlib.Core.Path.{sym, ◌∙◌}
-use borrow.Author.Rules.{rules}
 use Rattle.reading.proofs.Rows.{refused_operator, refused_operand, no_node_refused}
 use Rattle.reading.proofs.refuse.check_nodes.Goals as goal
 

@@ -1,7 +1,6 @@
 -- `reading::refuse::check_parts` meets its contract. Each return rewrites the chain with the rows that passed and the one
 -- that did not. Assumes nothing.
 use mathlib.Core.Path.{sym, ◌∙◌}
-use borrow.Author.Rules.{rules}
 use Rattle.reading.specs.Refusals.{parts_refusal}
 use Rattle.reading.proofs.refuse.check_parts.Goals as goal
 

@@ -1,5 +1,4 @@
 -- `reading::refuse::check_states` meets its contract. By where the walk ended. Assumes nothing.
-use borrow.Author.Rules.{rules}
 use Rattle.reading.specs.declared.CaseRefusal.TheVariants.{Bits}
 use Rattle.reading.specs.Refusals.{states_refusal}
 use Rattle.reading.proofs.Rows.{refused_at, none_refused}

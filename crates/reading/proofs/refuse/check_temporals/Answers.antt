@@ -1,6 +1,5 @@
 -- `reading::refuse::check_temporals` meets its contract. By the test. Assumes nothing.
 use borrow.Author.Tests.{lt-ltb, le-ltb}
-use borrow.Author.Rules.{rules}
 use Rattle.reading.specs.Refusals.{temporals_refusal}
 use Rattle.reading.proofs.refuse.check_temporals.Goals as goal
 

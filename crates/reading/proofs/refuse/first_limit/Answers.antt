@@ -1,6 +1,5 @@
 -- `reading::refuse::first_limit` meets its contract. By cases on the tests. Assumes nothing.
 use borrow.Author.Tests.{eq-eqb, ne_eqb, le-leb, lt-leb}
-use borrow.Author.Rules.{rules}
 use Rattle.reading.specs.Refusals.{first_limit}
 use Rattle.reading.proofs.refuse.first_limit.Goals as goal
 

@@ -1,6 +1,5 @@
 -- `reading::refuse::in_steps` meets its contract. By cases on the tests, in the definition's order. Assumes nothing.
 use borrow.Author.Tests.{eq-eqb, ne_eqb, le-leb, lt-leb}
-use borrow.Author.Rules.{rules}
 use Rattle.reading.specs.Refusals.{in_steps}
 use Rattle.reading.proofs.refuse.in_steps.Goals as goal
 

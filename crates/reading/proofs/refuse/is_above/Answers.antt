@@ -1,6 +1,5 @@
 -- `reading::refuse::is_above` meets its contract. By cases on the tests, in the definition's order. Assumes nothing.
 use borrow.Author.Tests.{lt-ltb, le-ltb, eq-eqb, ne_eqb}
-use borrow.Author.Rules.{rules}
 use Rattle.reading.specs.Refusals.{above}
 use Rattle.reading.proofs.refuse.is_above.Goals as goal
 

@@ -1,5 +1,4 @@
 -- `reading::refuse::is_unknown` meets its contract. By what `operator` ensures. Assumes nothing.
-use borrow.Author.Rules.{rules}
 use Rattle.reading.specs.Refusals.{unknown}
 use Rattle.reading.proofs.refuse.is_unknown.Goals as goal
 

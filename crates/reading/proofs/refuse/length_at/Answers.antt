@@ -1,6 +1,5 @@
 -- `reading::refuse::length_at` meets its contract. By what `byte` ensures. Assumes nothing.
 use native.Mathlib.Omega.{arith}
-use borrow.Author.Rules.{rules}
 use Rattle.reading.specs.Refusals.{length_at}
 use Rattle.reading.proofs.refuse.length_at.Goals as goal
 

@@ -1,11 +1,8 @@
 -- `reading::refuse::lowest_bad_edge` meets its contract. The loop's invariant: no edge passed is bad. The measure is how many
 -- are left. Assumes nothing.
-use Prim.Native.Nat.{ℕ, ◌-◌, ◌≤◌, ◌<◌}
-use mathlib.Core.Bool.{false, ◌||◌}
-use mathlib.Core.Path.{◌≡◌, sym, ◌∙◌}
+use mathlib.Core.Path.{sym, ◌∙◌}
 use native.Mathlib.Omega.{arith}
 use borrow.Author.Count.{below_more}
-use Rattle.reading.specs.Refusals.{bad_end, not_above}
 use Rattle.reading.proofs.Lowest.{lowest_is}
 use Rattle.reading.proofs.refuse.lowest_bad_edge.Goals as goal
 

@@ -1,11 +1,8 @@
 -- `reading::refuse::lowest_bad_node` meets its contract. The loop's invariant: no node passed is bad. The measure is how many
 -- are left. Assumes nothing.
-use Prim.Native.Nat.{ℕ, ◌-◌, ◌≤◌, ◌<◌}
-use mathlib.Core.Bool.{false, ◌||◌}
-use mathlib.Core.Path.{◌≡◌, sym, ◌∙◌}
+use mathlib.Core.Path.{sym, ◌∙◌}
 use native.Mathlib.Omega.{arith}
 use borrow.Author.Count.{below_more}
-use Rattle.reading.specs.Refusals.{unknown, wrong_byte}
 use Rattle.reading.proofs.Lowest.{lowest_is}
 use Rattle.reading.proofs.refuse.lowest_bad_node.Goals as goal
 

@@ -2,11 +2,8 @@
 -- are left. Assumes nothing.
 use Prim.Native.Nat.{ℕ, ◌-◌, ◌≤◌, ◌<◌}
 use mathlib.Core.Bool.{false, ◌||◌}
-use mathlib.Core.Path.{◌≡◌, sym, ◌∙◌}
-use native.Mathlib.Omega.{arith}
-use borrow.Author.Count.{below_more}
+use mathlib.Core.Path.{◌≡◌}
 use Rattle.reading.specs.Refusals.{unknown, wrong_byte}
-use Rattle.reading.proofs.Lowest.{lowest_is}
 use Rattle.reading.proofs.refuse.lowest_bad_node.Given as goal
 
 abbrev pub invariant-loop-n : goal.invariant-loop-n

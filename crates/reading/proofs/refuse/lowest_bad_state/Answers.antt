@@ -1,11 +1,8 @@
 -- `reading::refuse::lowest_bad_state` meets its contract. The loop's invariant: no state passed is bad. The measure is how
 -- many are left. Assumes nothing.
-use Prim.Native.Nat.{ℕ, ◌-◌, ◌≤◌, ◌<◌}
-use mathlib.Core.Bool.{false}
-use mathlib.Core.Path.{◌≡◌, sym, ◌∙◌}
+use mathlib.Core.Path.{sym, ◌∙◌}
 use native.Mathlib.Omega.{arith}
 use borrow.Author.Count.{below_more}
-use Rattle.reading.specs.Refusals.{bad_state}
 use Rattle.reading.proofs.Lowest.{lowest_is}
 use Rattle.reading.proofs.refuse.lowest_bad_state.Goals as goal
 

@@ -1,15 +1,11 @@
 -- `reading::refuse::lowest_dead_end` meets its contract. The outer loop's invariant: every state passed starts an edge, and
 -- none is found yet; its measure is how many states are left. The inner loop's: the states left are as they were, and no edge
 -- passed starts at this state; its measure is how many edges are left. Assumes nothing.
-use Prim.Native.Nat.{ℕ, ◌-◌, ◌≤◌, ◌<◌}
-use mathlib.Core.Bool.{false}
-use mathlib.Core.Path.{◌≡◌, refl, sym, ◌∙◌}
+use Prim.Native.Nat.{◌-◌}
+use mathlib.Core.Path.{refl, sym, ◌∙◌}
 use native.Mathlib.Omega.{arith}
-use lib.Dec.{eqb}
 use borrow.Author.Count.{below_more}
 use borrow.Author.Tests.{ne_eqb}
-use Rattle.reading.specs.Refusals.{starts_none}
-use Rattle.reading.specs.Parts.{from_of}
 use Rattle.reading.proofs.Rows.{starts_one, starts_none_lem}
 use Rattle.reading.proofs.Lowest.{lowest_is}
 use Rattle.reading.proofs.refuse.lowest_dead_end.Goals as goal

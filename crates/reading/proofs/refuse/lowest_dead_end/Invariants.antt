@@ -3,15 +3,10 @@
 -- passed starts at this state; its measure is how many edges are left. Assumes nothing.
 use Prim.Native.Nat.{ℕ, ◌-◌, ◌≤◌, ◌<◌}
 use mathlib.Core.Bool.{false}
-use mathlib.Core.Path.{◌≡◌, refl, sym, ◌∙◌}
-use native.Mathlib.Omega.{arith}
+use mathlib.Core.Path.{◌≡◌}
 use lib.Dec.{eqb}
-use borrow.Author.Count.{below_more}
-use borrow.Author.Tests.{ne_eqb}
 use Rattle.reading.specs.Refusals.{starts_none}
 use Rattle.reading.specs.Parts.{from_of}
-use Rattle.reading.proofs.Rows.{starts_one, starts_none_lem}
-use Rattle.reading.proofs.Lowest.{lowest_is}
 use Rattle.reading.proofs.refuse.lowest_dead_end.Given as goal
 
 abbrev pub invariant-loop-e : goal.invariant-loop-e

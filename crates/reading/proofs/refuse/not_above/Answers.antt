@@ -1,7 +1,6 @@
 -- `reading::refuse::not_above` meets its contract. Edge 0 has none before it. Assumes nothing.
 use native.Mathlib.Omega.{arith}
 use borrow.Author.Tests.{lt-ltb, le-ltb}
-use borrow.Author.Rules.{rules}
 use Rattle.reading.specs.Refusals.{not_above}
 use Rattle.reading.proofs.refuse.not_above.Goals as goal
 

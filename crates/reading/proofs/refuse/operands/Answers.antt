@@ -3,7 +3,6 @@
 use mathlib.Core.List.{[], ◌∷◌}
 use mathlib.Core.Path.{sym}
 use lib.ListN.{get_or-eq_default}
-use borrow.Author.Rules.{rules}
 use Rattle.reading.proofs.refuse.operands.Goals as goal
 
 pub returns : goal.returns

@@ -1,6 +1,5 @@
 -- `reading::refuse::second_limit` meets its contract. By cases on the test. Assumes nothing.
 use borrow.Author.Tests.{le-leb, lt-leb}
-use borrow.Author.Rules.{rules}
 use Rattle.reading.specs.Refusals.{second_limit}
 use Rattle.reading.proofs.refuse.second_limit.Goals as goal
 

@@ -1,6 +1,5 @@
 -- `reading::refuse::wrong_byte` meets its contract. By cases on the two tests. Assumes nothing.
 use borrow.Author.Tests.{le-leb, lt-leb}
-use borrow.Author.Rules.{rules}
 use Rattle.reading.specs.Refusals.{wrong_byte}
 use Rattle.reading.proofs.refuse.wrong_byte.Goals as goal
 

@@ -5,7 +5,6 @@ use mathlib.Core.Path.{◌≡◌, refl, sym, ap, ◌∙◌}
 use mathlib.Core.Bool.{Bool, true, false}
 use lib.Bits.{bit_and}
 use lib.Dec.{eqb}
-use borrow.Author.Rules.{rules}
 use Rattle.bits.specs.Bits.{bit}
 use Rattle.bits.proofs.Bit.{digit, test_bit, eqb_digit}
 use Rattle.workspace.proofs.Roots.{rooting_guesses, rooting_state, root_none, root_true, root_false}

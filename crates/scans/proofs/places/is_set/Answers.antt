@@ -1,5 +1,4 @@
 -- `scans::places::is_set` meets its contract: the lane shifted by b and cut to its lowest digit is bit b. Assumes nothing.
-use borrow.Author.Rules.{rules}
 use Rattle.bits.proofs.Bit.{test_bit, eqb_digit}
 use Rattle.scans.proofs.places.is_set.Goals as goal
 

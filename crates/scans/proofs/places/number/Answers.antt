@@ -2,7 +2,6 @@
 use Prim.Native.Nat.{ℕ, ◌+◌, ◌*◌, ◌≤◌, ◌<◌}
 use native.Mathlib.Nat.{mul-le-mul}
 use native.Mathlib.Omega.{arith}
-use borrow.Author.Rules.{rules}
 use Rattle.scans.proofs.places.number.Goals as goal
 
 row_small : {s guesses b : ℕ} → s < 64 → guesses ≤ 16 → b < 16 → s * guesses + b ≤ 1039

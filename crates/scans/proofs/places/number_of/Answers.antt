@@ -1,6 +1,5 @@
 -- `scans::places::number_of` meets its contract: the code comes apart, and its parts are numbered. Assumes nothing.
 use mathlib.Core.Path.{◌∙◌}
-use borrow.Author.Rules.{rules}
 use Rattle.scans.proofs.places.number_of.Goals as goal
 
 pub returns : goal.returns

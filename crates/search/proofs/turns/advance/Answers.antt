@@ -4,7 +4,6 @@ use mathlib.Core.List.{List}
 use Prim.Native.Nat.{ℕ}
 use lib.ListN.{length, length-set}
 use Rattle.workspace.proofs.TurnsIn.{pushed}
-use borrow.Author.Rules.{rules}
 use Rattle.search.proofs.turns.advance.Goals as goal
 
 pub returns : goal.returns

@@ -5,12 +5,10 @@ use native.Mathlib.Omega.{arith}
 use mathlib.Core.Path.{◌≡◌, sym, ◌∙◌, subst}
 use mathlib.Core.List.{List}
 use lib.ListN.{take}
-use borrow.Author.Rules.{rules}
 use Rattle.graph.proofs.Machine.{below}
-use Rattle.workspace.proofs.Setting.{Setting}
-use Rattle.workspace.proofs.Views.{Kept, kept_same, kept_on, inner_fuel}
-use Rattle.workspace.proofs.ViewsIn.{cursors_in, InnerIn}
-use Rattle.workspace.proofs.InnerTurnsIn.{Leaving, inner_pushes, inner_kept, inner_begun}
+use Rattle.workspace.proofs.Views.{Kept, kept_same, kept_on}
+use Rattle.workspace.proofs.ViewsIn.{InnerIn}
+use Rattle.workspace.proofs.InnerTurnsIn.{inner_pushes, inner_kept, inner_begun}
 use Rattle.search.proofs.Cases.{back_deeper, back_met, met_deeper, met_back}
 use Rattle.search.proofs.turns.inner_search.Goals as goal
 
@@ -80,7 +78,7 @@ returns-in-Met c =
       ended = λ e. met_deeper _ _ e;
       back = λ x r d l e. met_back _ _ e;
       met = λ x r d l i m e.
-              c.inner_turn.ensures.met x r ((below 1 (take c.args.sizes.places c.args.workspace.now))) d c.args.workspace.now ((c.loop-depth.invariant.1 x r ((below 1 (take c.args.sizes.places c.args.workspace.now))) d c.args.workspace.now (subst (λ (l : List ℕ). InnerIn x r ((below 1 (take c.args.sizes.places c.args.workspace.now))) d c.args.workspace.now l 1) (sym c.push.ensures) (inner_begun x l c.requires.marked)))) i m (c.in-Met.is ∙ e);
+          c.inner_turn.ensures.met x r ((below 1 (take c.args.sizes.places c.args.workspace.now))) d c.args.workspace.now ((c.loop-depth.invariant.1 x r ((below 1 (take c.args.sizes.places c.args.workspace.now))) d c.args.workspace.now (subst (λ (l : List ℕ). InnerIn x r ((below 1 (take c.args.sizes.places c.args.workspace.now))) d c.args.workspace.now l 1) (sym c.push.ensures) (inner_begun x l c.requires.marked)))) i m (c.in-Met.is ∙ e);
     }
 
 pub shape_of-workspace : goal.shape_of-workspace
@@ -101,7 +99,7 @@ returns c =
       kept = kept;
       ended = λ e. back_deeper e;
       back = λ x r d l e.
-              let none : c.loop-depth.depth ≡ 0 = omega (arith, c.loop-depth-test.false) in
-              subst (InnerIn x r ((below 1 (take c.args.sizes.places c.args.workspace.now))) d c.args.workspace.now c.loop-depth.workspace) none ((c.loop-depth.invariant.1 x r ((below 1 (take c.args.sizes.places c.args.workspace.now))) d c.args.workspace.now (subst (λ (l : List ℕ). InnerIn x r ((below 1 (take c.args.sizes.places c.args.workspace.now))) d c.args.workspace.now l 1) (sym c.push.ensures) (inner_begun x l c.requires.marked))));
+          let none : c.loop-depth.depth ≡ 0 = omega (arith, c.loop-depth-test.false) in
+          subst (InnerIn x r ((below 1 (take c.args.sizes.places c.args.workspace.now))) d c.args.workspace.now c.loop-depth.workspace) none ((c.loop-depth.invariant.1 x r ((below 1 (take c.args.sizes.places c.args.workspace.now))) d c.args.workspace.now (subst (λ (l : List ℕ). InnerIn x r ((below 1 (take c.args.sizes.places c.args.workspace.now))) d c.args.workspace.now l 1) (sym c.push.ensures) (inner_begun x l c.requires.marked))));
       met = λ x r d l i m e. back_met i m e;
     }

@@ -1,17 +1,10 @@
 -- `search::turns::inner_search` meets its contract. The loop's invariant: what an inner search that begins on the workspace as pushed holds
 -- of it, it holds of the workspace now; and what lies beyond 6 · P is kept. The measure is the machine's, of the inner stack. Assumes nothing.
 use Prim.Native.Nat.{ℕ}
-use native.Mathlib.Omega.{arith}
-use mathlib.Core.Path.{◌≡◌, sym, ◌∙◌, subst}
 use mathlib.Core.List.{List}
-use lib.ListN.{take}
-use borrow.Author.Rules.{rules}
-use Rattle.graph.proofs.Machine.{below}
 use Rattle.workspace.proofs.Setting.{Setting}
-use Rattle.workspace.proofs.Views.{Kept, kept_same, kept_on, inner_fuel}
+use Rattle.workspace.proofs.Views.{Kept, inner_fuel}
 use Rattle.workspace.proofs.ViewsIn.{cursors_in, InnerIn}
-use Rattle.workspace.proofs.InnerTurnsIn.{Leaving, inner_pushes, inner_kept, inner_begun}
-use Rattle.search.proofs.Cases.{back_deeper, back_met, met_deeper, met_back}
 use Rattle.search.proofs.turns.inner_search.Given as goal
 
 abbrev pub invariant-loop-depth : goal.invariant-loop-depth

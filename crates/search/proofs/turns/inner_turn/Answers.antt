@@ -1,17 +1,15 @@
 -- `search::turns::inner_turn` meets its contract: what the scan says of the inner top is one of the machine's turns. Assumes nothing.
-use Prim.Native.Nat.{ℕ, suc, ◌+◌, ◌*◌}
+use Prim.Native.Nat.{ℕ, suc, ◌+◌}
 use native.Mathlib.Omega.{arith}
 use mathlib.Core.Path.{sym, ap, ◌∙◌, subst}
 use mathlib.Core.List.{List}
 use lib.ListN.{get_or}
-use Rattle.graph.proofs.Machine.{red}
-use Rattle.workspace.proofs.Setting.{Setting, Coded}
+use Rattle.workspace.proofs.Setting.{Coded}
 use Rattle.workspace.proofs.Views.{Kept, kept_same}
-use Rattle.workspace.proofs.ViewsIn.{number-below, InnerIn, MetIn, InnerOn}
-use Rattle.workspace.proofs.TurnsIn.{ScanFinds, number-asked}
-use Rattle.workspace.proofs.InnerTurnsIn.{InnerAdvanced, inner_topped, inner_met, inner_advanced, inner_back}
+use Rattle.workspace.proofs.ViewsIn.{number-below, MetIn, InnerOn}
+use Rattle.workspace.proofs.TurnsIn.{number-asked}
+use Rattle.workspace.proofs.InnerTurnsIn.{inner_topped, inner_met, inner_advanced, inner_back}
 use Rattle.search.proofs.Cases.{deeper_back, back_deeper, deeper_met, back_met, met_deeper, met_back, met_same}
-use borrow.Author.Rules.{rules}
 use Rattle.search.proofs.turns.inner_turn.Goals as goal
 
 pub scan_top-requires : goal.scan_top-requires
@@ -40,14 +38,14 @@ returns-then-workspace-number_of-eq-CYAN c =
       deeper = λ x r w d was n e. met_deeper _ _ e;
       back = λ x r w d was n e. met_back _ _ e;
       met = λ x r w d was n i a e.
-              met_same (λ (i a : ℕ). MetIn x c.args.workspace.now (suc d) i a) _ _ i a e
-              (inner_met x n c.requires.deep (c.scan_top.ensures.found x (inner_topped x n c.requires.deep) c.in-At.cursor c.in-At.code c.in-At.is).0 (c.scan_top.ensures.found x (inner_topped x n c.requires.deep) c.in-At.cursor c.in-At.code c.in-At.is).1
-              (ap (λ (k : ℕ). get_or c.args.workspace.now k 0) (sym c.number_of.ensures) ∙ c.if-workspace-number_of-eq-CYAN.true));
+          met_same (λ (i a : ℕ). MetIn x c.args.workspace.now (suc d) i a) _ _ i a e
+          (inner_met x n c.requires.deep (c.scan_top.ensures.found x (inner_topped x n c.requires.deep) c.in-At.cursor c.in-At.code c.in-At.is).0 (c.scan_top.ensures.found x (inner_topped x n c.requires.deep) c.in-At.cursor c.in-At.code c.in-At.is).1
+          (ap (λ (k : ℕ). get_or c.args.workspace.now k 0) (sym c.number_of.ensures) ∙ c.if-workspace-number_of-eq-CYAN.true));
     }
 
 pub advance-requires : goal.advance-requires
 advance-requires c =
-    ( inner_advanced c.requires.setting.0 c.requires.setting.5 c.requires.deep (c.scan_top.ensures.found c.requires.setting.0 (inner_topped c.requires.setting.0 c.requires.setting.5 c.requires.deep) c.in-At.cursor c.in-At.code c.in-At.is).0 (c.scan_top.ensures.found c.requires.setting.0 (inner_topped c.requires.setting.0 c.requires.setting.5 c.requires.deep) c.in-At.cursor c.in-At.code c.in-At.is).1 (λ q. c.if-workspace-number_of-eq-CYAN.false (ap (λ (k : ℕ). get_or c.args.workspace.now k 0) c.number_of.ensures ∙ q))).asked
+    (inner_advanced c.requires.setting.0 c.requires.setting.5 c.requires.deep (c.scan_top.ensures.found c.requires.setting.0 (inner_topped c.requires.setting.0 c.requires.setting.5 c.requires.deep) c.in-At.cursor c.in-At.code c.in-At.is).0 (c.scan_top.ensures.found c.requires.setting.0 (inner_topped c.requires.setting.0 c.requires.setting.5 c.requires.deep) c.in-At.cursor c.in-At.code c.in-At.is).1 (λ q. c.if-workspace-number_of-eq-CYAN.false (ap (λ (k : ℕ). get_or c.args.workspace.now k 0) c.number_of.ensures ∙ q))).asked
 
 pub returns-in-Nothing : goal.returns-in-Nothing
 returns-in-Nothing c =
@@ -55,16 +53,16 @@ returns-in-Nothing c =
       kept = kept_same c.args.sizes.places c.args.workspace.now;
       deeper = λ x r w d was n e. back_deeper e;
       back = λ x r w d was n e.
-              inner_back x n c.requires.deep (c.scan_top.ensures.nothing x (inner_topped x n c.requires.deep) c.in-Nothing.is);
+          inner_back x n c.requires.deep (c.scan_top.ensures.nothing x (inner_topped x n c.requires.deep) c.in-Nothing.is);
       met = λ x r w d was n i a e. back_met i a e;
     }
 
 pub returns-else-workspace-number_of-eq-CYAN : goal.returns-else-workspace-number_of-eq-CYAN
 returns-else-workspace-number_of-eq-CYAN c =
     let on = sym c.advance.ensures in record {
-      kept = subst (λ (l : List ℕ). Kept c.args.sizes.places c.args.workspace.now l) on ( inner_advanced c.requires.setting.0 c.requires.setting.5 c.requires.deep (c.scan_top.ensures.found c.requires.setting.0 (inner_topped c.requires.setting.0 c.requires.setting.5 c.requires.deep) c.in-At.cursor c.in-At.code c.in-At.is).0 (c.scan_top.ensures.found c.requires.setting.0 (inner_topped c.requires.setting.0 c.requires.setting.5 c.requires.deep) c.in-At.cursor c.in-At.code c.in-At.is).1 (λ q. c.if-workspace-number_of-eq-CYAN.false (ap (λ (k : ℕ). get_or c.args.workspace.now k 0) c.number_of.ensures ∙ q))).kept;
+      kept = subst (λ (l : List ℕ). Kept c.args.sizes.places c.args.workspace.now l) on (inner_advanced c.requires.setting.0 c.requires.setting.5 c.requires.deep (c.scan_top.ensures.found c.requires.setting.0 (inner_topped c.requires.setting.0 c.requires.setting.5 c.requires.deep) c.in-At.cursor c.in-At.code c.in-At.is).0 (c.scan_top.ensures.found c.requires.setting.0 (inner_topped c.requires.setting.0 c.requires.setting.5 c.requires.deep) c.in-At.cursor c.in-At.code c.in-At.is).1 (λ q. c.if-workspace-number_of-eq-CYAN.false (ap (λ (k : ℕ). get_or c.args.workspace.now k 0) c.number_of.ensures ∙ q))).kept;
       deeper = λ x r w d was n told.
-            subst (λ (l : List ℕ). InnerOn x r w d was c.args.workspace.now c.args.depth l (c.args.depth + 1)) on ( inner_advanced x n c.requires.deep (c.scan_top.ensures.found x (inner_topped x n c.requires.deep) c.in-At.cursor c.in-At.code c.in-At.is).0 (c.scan_top.ensures.found x (inner_topped x n c.requires.deep) c.in-At.cursor c.in-At.code c.in-At.is).1 (λ q. c.if-workspace-number_of-eq-CYAN.false (ap (λ (k : ℕ). get_or c.args.workspace.now k 0) c.number_of.ensures ∙ q))).on;
+          subst (λ (l : List ℕ). InnerOn x r w d was c.args.workspace.now c.args.depth l (c.args.depth + 1)) on (inner_advanced x n c.requires.deep (c.scan_top.ensures.found x (inner_topped x n c.requires.deep) c.in-At.cursor c.in-At.code c.in-At.is).0 (c.scan_top.ensures.found x (inner_topped x n c.requires.deep) c.in-At.cursor c.in-At.code c.in-At.is).1 (λ q. c.if-workspace-number_of-eq-CYAN.false (ap (λ (k : ℕ). get_or c.args.workspace.now k 0) c.number_of.ensures ∙ q))).on;
       back = λ x r w d was n told. deeper_back told;
       met = λ x r w d was n i a told. deeper_met i a told;
     }

@@ -6,7 +6,6 @@ use Rattle.workspace.proofs.Views.{Kept}
 use Rattle.workspace.proofs.ViewsIn.{OuterOn}
 use Rattle.workspace.proofs.InnerTurnsIn.{top_paints, paint_kept, left_blue, red_paints, red_kept, left_red}
 use Rattle.search.proofs.Cases.{back_deeper, back_met, met_deeper, met_back}
-use borrow.Author.Rules.{rules}
 use borrow.Author.Tests.{leb-true, leb-false, not-true, not-false}
 use Rattle.search.proofs.turns.leave.Goals as goal
 
@@ -22,7 +21,7 @@ returns-then-not-is_marked c =
       kept = subst (λ (l : List ℕ). Kept c.args.sizes.places ws l) (sym c.paint.ensures) (paint_kept c.requires.0 c.requires.3 1);
       ended = λ e. back_deeper e;
       back = λ x r d l e.
-              subst (λ (k : List ℕ). OuterOn x r ws (suc d) k d) (sym c.paint.ensures) (left_blue x l waits);
+          subst (λ (k : List ℕ). OuterOn x r ws (suc d) k d) (sym c.paint.ensures) (left_blue x l waits);
       met = λ x r d l i a e. back_met i a e;
     }
 
@@ -54,7 +53,7 @@ returns-in-Back c =
       kept = subst (λ (l : List ℕ). Kept c.args.sizes.places ws l) (sym c.paint-in-Back.ensures) (red_kept c.requires.0 c.requires.3 c.inner_search.ensures.kept);
       ended = λ e. back_deeper e;
       back = λ x r d l e.
-              subst (λ (k : List ℕ). OuterOn x r ws (suc d) k d) (sym c.paint-in-Back.ensures) (left_red x l (c.inner_search.ensures.back x r d l c.in-Back.is));
+          subst (λ (k : List ℕ). OuterOn x r ws (suc d) k d) (sym c.paint-in-Back.ensures) (left_red x l (c.inner_search.ensures.back x r d l c.in-Back.is));
       met = λ x r d l i a e. back_met i a e;
     }
 

@@ -5,13 +5,12 @@ use native.Mathlib.Omega.{arith}
 use mathlib.Core.Path.{◌≡◌, sym, ap, ◌∙◌, subst}
 use mathlib.Core.List.{List}
 use lib.ListN.{set}
-use borrow.Author.Rules.{rules}
 use Rattle.graph.proofs.Machine.{cyan}
-use Rattle.workspace.proofs.Setting.{Setting, number_in}
-use Rattle.workspace.proofs.Views.{Kept, kept_same, kept_on, outer_fuel}
-use Rattle.workspace.proofs.ViewsIn.{cursors_in, OuterIn, MetIn}
+use Rattle.workspace.proofs.Setting.{number_in}
+use Rattle.workspace.proofs.Views.{Kept, kept_same, kept_on}
+use Rattle.workspace.proofs.ViewsIn.{OuterIn, MetIn}
 use Rattle.workspace.proofs.TurnsIn.{Pushes, pushed}
-use Rattle.workspace.proofs.RootTurnsIn.{Root, root_paints, root_pushes, root_kept, root_begun}
+use Rattle.workspace.proofs.RootTurnsIn.{root_paints, root_pushes, root_kept, root_begun}
 use Rattle.search.proofs.Cases.{loop_nothing, nothing_loop, loop_same}
 use Rattle.search.proofs.turns.outer_search.Goals as goal
 
@@ -88,8 +87,8 @@ returns-in-Met c =
       kept = kept_on kept c.outer_turn.ensures.kept;
       nothing = λ x o e. loop_nothing _ _ _ e;
       met = λ x o out i m e.
-            loop_same (λ (out i m : ℕ). MetIn x c.outer_turn.new.workspace out i m) _ _ _ out i m e
-            (c.outer_turn.ensures.met x ((number_in c.args.sizes.guesses c.args.sizes.top c.args.root) + 1) ((c.loop-depth.invariant.1 x ((number_in c.args.sizes.guesses c.args.sizes.top c.args.root) + 1) (subst (λ (l : List ℕ). OuterIn x ((number_in c.args.sizes.guesses c.args.sizes.top c.args.root) + 1) l 1) (sym begun) (root_begun x o)))) c.in-Met.inner c.in-Met.at c.in-Met.is);
+          loop_same (λ (out i m : ℕ). MetIn x c.outer_turn.new.workspace out i m) _ _ _ out i m e
+          (c.outer_turn.ensures.met x ((number_in c.args.sizes.guesses c.args.sizes.top c.args.root) + 1) ((c.loop-depth.invariant.1 x ((number_in c.args.sizes.guesses c.args.sizes.top c.args.root) + 1) (subst (λ (l : List ℕ). OuterIn x ((number_in c.args.sizes.guesses c.args.sizes.top c.args.root) + 1) l 1) (sym begun) (root_begun x o)))) c.in-Met.inner c.in-Met.at c.in-Met.is);
     }
 
 pub shape_of-workspace : goal.shape_of-workspace
@@ -107,7 +106,7 @@ returns c =
     record {
       kept = kept;
       nothing = λ x o e.
-            let none : c.loop-depth.depth ≡ 0 = omega (arith, c.loop-depth-test.false) in
-            subst (OuterIn x ((number_in c.args.sizes.guesses c.args.sizes.top c.args.root) + 1) c.loop-depth.workspace) none ((c.loop-depth.invariant.1 x ((number_in c.args.sizes.guesses c.args.sizes.top c.args.root) + 1) (subst (λ (l : List ℕ). OuterIn x ((number_in c.args.sizes.guesses c.args.sizes.top c.args.root) + 1) l 1) (sym begun) (root_begun x o))));
+          let none : c.loop-depth.depth ≡ 0 = omega (arith, c.loop-depth-test.false) in
+          subst (OuterIn x ((number_in c.args.sizes.guesses c.args.sizes.top c.args.root) + 1) c.loop-depth.workspace) none ((c.loop-depth.invariant.1 x ((number_in c.args.sizes.guesses c.args.sizes.top c.args.root) + 1) (subst (λ (l : List ℕ). OuterIn x ((number_in c.args.sizes.guesses c.args.sizes.top c.args.root) + 1) l 1) (sym begun) (root_begun x o))));
       met = λ x o out i m e. nothing_loop out i m e;
     }

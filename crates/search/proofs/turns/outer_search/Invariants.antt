@@ -1,18 +1,9 @@
 -- `search::turns::outer_search` meets its contract. The loop's invariant: what holds between inner searches from the pushed root on holds
 -- now; and what lies beyond 6 · P is kept. The measure is the machine's, of the outer stack. Assumes nothing.
-use Prim.Native.Nat.{ℕ, ◌+◌}
-use native.Mathlib.Omega.{arith}
-use mathlib.Core.Path.{◌≡◌, sym, ap, ◌∙◌, subst}
-use mathlib.Core.List.{List}
-use lib.ListN.{set}
-use borrow.Author.Rules.{rules}
-use Rattle.graph.proofs.Machine.{cyan}
-use Rattle.workspace.proofs.Setting.{Setting, number_in}
-use Rattle.workspace.proofs.Views.{Kept, kept_same, kept_on, outer_fuel}
-use Rattle.workspace.proofs.ViewsIn.{cursors_in, OuterIn, MetIn}
-use Rattle.workspace.proofs.TurnsIn.{Pushes, pushed}
-use Rattle.workspace.proofs.RootTurnsIn.{Root, root_paints, root_pushes, root_kept, root_begun}
-use Rattle.search.proofs.Cases.{loop_nothing, nothing_loop, loop_same}
+use Prim.Native.Nat.{ℕ}
+use Rattle.workspace.proofs.Setting.{Setting}
+use Rattle.workspace.proofs.Views.{Kept, outer_fuel}
+use Rattle.workspace.proofs.ViewsIn.{cursors_in, OuterIn}
 use Rattle.search.proofs.turns.outer_search.Given as goal
 
 abbrev pub invariant-loop-depth : goal.invariant-loop-depth

@@ -10,7 +10,6 @@ use Rattle.workspace.proofs.ViewsIn.{OuterIn, OuterOn, MetIn}
 use Rattle.workspace.proofs.TurnsIn.{OuterAdvanced, outer_topped, outer_advanced}
 use Rattle.workspace.proofs.InnerTurnsIn.{Leaving, outer_leaving}
 use Rattle.search.proofs.Cases.{deeper_back, deeper_met}
-use borrow.Author.Rules.{rules}
 use Rattle.search.proofs.turns.outer_turn.Goals as goal
 
 -- ---- the needs
@@ -29,7 +28,7 @@ leave-requires c =
     let leaving : (x : (let s = c.args in
     Setting s.edges.now s.lanes.now s.starts.now s.sizes.guesses s.sizes.ones s.sizes.top s.sizes.places)) (r : ℕ) → In x r
     → Leaving x r c.args.workspace.now (c.args.depth - 1)
-    (get_or c.args.workspace.now (c.args.sizes.places + c.args.depth - 1) 0) = λ x r o. 
+    (get_or c.args.workspace.now (c.args.sizes.places + c.args.depth - 1) 0) = λ x r o.
     outer_leaving x o c.requires.deep (c.scan_top.ensures.nothing x (outer_topped x o c.requires.deep) c.in-Nothing.is) in
     (c.requires.setting.0, c.requires.setting.1, c.args.depth - 1, leaving c.requires.setting.0 c.requires.setting.1 c.requires.setting.2)
 
@@ -39,7 +38,7 @@ advance-requires c =
     Setting s.edges.now s.lanes.now s.starts.now s.sizes.guesses s.sizes.ones s.sizes.top s.sizes.places) → ℕ → Type 0 = λ x r. OuterIn x r c.args.workspace.now c.args.depth in
     let advanced : (x : (let s = c.args in
     Setting s.edges.now s.lanes.now s.starts.now s.sizes.guesses s.sizes.ones s.sizes.top s.sizes.places)) (r : ℕ) → In x r
-    → OuterAdvanced x r c.args.workspace.now c.args.depth c.in-At.cursor c.in-At.code = λ x r o. 
+    → OuterAdvanced x r c.args.workspace.now c.args.depth c.in-At.cursor c.in-At.code = λ x r o.
     let found = c.scan_top.ensures.found x (outer_topped x o c.requires.deep) c.in-At.cursor c.in-At.code c.in-At.is in
     outer_advanced x o c.requires.deep found.0 found.1 in
     (advanced c.requires.setting.0 c.requires.setting.1 c.requires.setting.2).asked
@@ -51,7 +50,7 @@ returns-in-Nothing c =
     let leaving : (x : (let s = c.args in
     Setting s.edges.now s.lanes.now s.starts.now s.sizes.guesses s.sizes.ones s.sizes.top s.sizes.places)) (r : ℕ) → In x r
     → Leaving x r c.args.workspace.now (c.args.depth - 1)
-    (get_or c.args.workspace.now (c.args.sizes.places + c.args.depth - 1) 0) = λ x r o. 
+    (get_or c.args.workspace.now (c.args.sizes.places + c.args.depth - 1) 0) = λ x r o.
     outer_leaving x o c.requires.deep (c.scan_top.ensures.nothing x (outer_topped x o c.requires.deep) c.in-Nothing.is) in
     let depth = c.args.depth in
     let left = c.leave.new.workspace in
@@ -68,7 +67,7 @@ returns-in-At c =
     Setting s.edges.now s.lanes.now s.starts.now s.sizes.guesses s.sizes.ones s.sizes.top s.sizes.places) → ℕ → Type 0 = λ x r. OuterIn x r c.args.workspace.now c.args.depth in
     let advanced : (x : (let s = c.args in
     Setting s.edges.now s.lanes.now s.starts.now s.sizes.guesses s.sizes.ones s.sizes.top s.sizes.places)) (r : ℕ) → In x r
-    → OuterAdvanced x r c.args.workspace.now c.args.depth c.in-At.cursor c.in-At.code = λ x r o. 
+    → OuterAdvanced x r c.args.workspace.now c.args.depth c.in-At.cursor c.in-At.code = λ x r o.
     let found = c.scan_top.ensures.found x (outer_topped x o c.requires.deep) c.in-At.cursor c.in-At.code c.in-At.is in
     outer_advanced x o c.requires.deep found.0 found.1 in
     let ws = c.args.workspace.now in

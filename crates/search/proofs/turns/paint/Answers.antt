@@ -2,7 +2,6 @@
 use Prim.Native.Nat.{ℕ}
 use mathlib.Core.Path.{ap}
 use lib.ListN.{set}
-use borrow.Author.Rules.{rules}
 use Rattle.search.proofs.turns.paint.Goals as goal
 
 pub returns : goal.returns

@@ -1,17 +1,14 @@
 -- `search::turns::root_turn` meets its contract: the place is searched from, or it is not white or not initial, and passed. Assumes nothing.
-use Prim.Native.Nat.{ℕ, ◌<◌}
+use Prim.Native.Nat.{ℕ}
 use native.Mathlib.Omega.{arith}
-use mathlib.Core.Path.{◌≡◌, sym, ap, ◌∙◌}
-use mathlib.Core.List.{List}
+use mathlib.Core.Path.{sym, ap, ◌∙◌}
 use lib.ListN.{get_or}
-use Rattle.workspace.proofs.Setting.{Setting, Coded}
-use Rattle.workspace.proofs.Roots.{root_at}
+use Rattle.workspace.proofs.Setting.{Coded}
 use Rattle.workspace.proofs.Views.{kept_same}
-use Rattle.workspace.proofs.ViewsIn.{number-below, OuterIn}
+use Rattle.workspace.proofs.ViewsIn.{number-below}
 use Rattle.workspace.proofs.TurnsIn.{number-asked}
-use Rattle.workspace.proofs.RootTurnsIn.{root_number, Root, guesses_few, met_coded, met_root, met_searched, met_coloured, met_other}
+use Rattle.workspace.proofs.RootTurnsIn.{guesses_few, met_coded, met_root, met_searched, met_coloured, met_other}
 use Rattle.search.proofs.Cases.{nothing_loop}
-use borrow.Author.Rules.{rules}
 use Rattle.search.proofs.turns.root_turn.Goals as goal
 
 -- ---- the needs
@@ -36,15 +33,15 @@ bounds-workspace-number_of c =
 
 pub outer_search-requires : goal.outer_search-requires
 outer_search-requires c =
-    (c.requires.setting.0, ( met_root c.requires.setting.0 c.args.s c.args.b _ c.requires.setting.2 c.requires.guess c.code-root.ensures c.requires.setting.1 (sym c.requires.setting.3 ∙ c.if-initial.true) (ap (λ (k : ℕ). get_or c.args.workspace.now k 0) (sym c.number_of.ensures) ∙ c.if-workspace-number_of-eq-WHITE.true)))
+    (c.requires.setting.0, (met_root c.requires.setting.0 c.args.s c.args.b _ c.requires.setting.2 c.requires.guess c.code-root.ensures c.requires.setting.1 (sym c.requires.setting.3 ∙ c.if-initial.true) (ap (λ (k : ℕ). get_or c.args.workspace.now k 0) (sym c.number_of.ensures) ∙ c.if-workspace-number_of-eq-WHITE.true)))
 
 pub returns-then-workspace-number_of-eq-WHITE : goal.returns-then-workspace-number_of-eq-WHITE
 returns-then-workspace-number_of-eq-WHITE c =
     record {
       kept = c.outer_search.ensures.kept;
       nothing = λ x o state initial e.
-            met_searched x c.args.s c.args.b _ state c.requires.guess c.code-root.ensures (c.outer_search.ensures.nothing x (( met_root x c.args.s c.args.b _ state c.requires.guess c.code-root.ensures o (sym initial ∙ c.if-initial.true) (ap (λ (k : ℕ). get_or c.args.workspace.now k 0) (sym c.number_of.ensures) ∙ c.if-workspace-number_of-eq-WHITE.true))) e);
-      met = λ x o state initial out i a e. c.outer_search.ensures.met x (( met_root x c.args.s c.args.b _ state c.requires.guess c.code-root.ensures o (sym initial ∙ c.if-initial.true) (ap (λ (k : ℕ). get_or c.args.workspace.now k 0) (sym c.number_of.ensures) ∙ c.if-workspace-number_of-eq-WHITE.true))) out i a e;
+          met_searched x c.args.s c.args.b _ state c.requires.guess c.code-root.ensures (c.outer_search.ensures.nothing x ((met_root x c.args.s c.args.b _ state c.requires.guess c.code-root.ensures o (sym initial ∙ c.if-initial.true) (ap (λ (k : ℕ). get_or c.args.workspace.now k 0) (sym c.number_of.ensures) ∙ c.if-workspace-number_of-eq-WHITE.true))) e);
+      met = λ x o state initial out i a e. c.outer_search.ensures.met x ((met_root x c.args.s c.args.b _ state c.requires.guess c.code-root.ensures o (sym initial ∙ c.if-initial.true) (ap (λ (k : ℕ). get_or c.args.workspace.now k 0) (sym c.number_of.ensures) ∙ c.if-workspace-number_of-eq-WHITE.true))) out i a e;
     }
 
 pub returns-else-workspace-number_of-eq-WHITE : goal.returns-else-workspace-number_of-eq-WHITE
@@ -52,8 +49,8 @@ returns-else-workspace-number_of-eq-WHITE c =
     record {
       kept = kept_same _ _;
       nothing = λ x o state initial e.
-            met_coloured x c.args.s c.args.b _ state c.requires.guess c.code-root.ensures o
-            (λ q. c.if-workspace-number_of-eq-WHITE.false (ap (λ (n : ℕ). get_or c.args.workspace.now n 0) c.number_of.ensures ∙ q));
+          met_coloured x c.args.s c.args.b _ state c.requires.guess c.code-root.ensures o
+          (λ q. c.if-workspace-number_of-eq-WHITE.false (ap (λ (n : ℕ). get_or c.args.workspace.now n 0) c.number_of.ensures ∙ q));
       met = λ x o state initial out i a e. nothing_loop out i a e;
     }
 
@@ -62,6 +59,6 @@ returns-else-initial c =
     record {
       kept = kept_same _ _;
       nothing = λ x o state initial e.
-            met_other x c.args.s c.args.b _ state c.requires.guess c.code-root.ensures o (sym initial ∙ c.if-initial.false);
+          met_other x c.args.s c.args.b _ state c.requires.guess c.code-root.ensures o (sym initial ∙ c.if-initial.false);
       met = λ x o state initial out i a e. nothing_loop out i a e;
     }

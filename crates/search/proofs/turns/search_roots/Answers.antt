@@ -1,13 +1,9 @@
 -- `search::turns::search_roots` meets its contract. The loop's invariant: the roots of lower states are passed. The measure is the states that are left.
 -- Assumes nothing.
-use Prim.Native.Nat.{ℕ, ◌-◌, ◌/◌, ◌≤◌}
+use Prim.Native.Nat.{ℕ}
 use native.Mathlib.Omega.{arith}
 use mathlib.Core.Path.{◌≡◌, ap, ◌∙◌, subst}
-use lib.ListN.{length}
-use borrow.Author.Rules.{rules}
-use Rattle.workspace.proofs.Setting.{Setting}
-use Rattle.workspace.proofs.Roots.{Rooting}
-use Rattle.workspace.proofs.Views.{Kept, kept_same, kept_on}
+use Rattle.workspace.proofs.Views.{kept_same, kept_on}
 use Rattle.workspace.proofs.ViewsIn.{OuterIn}
 use Rattle.workspace.proofs.RootTurnsIn.{root_number, root_first, root_end, rooting_count}
 use Rattle.search.proofs.Cases.{loop_nothing, nothing_loop}
@@ -15,10 +11,10 @@ use Rattle.search.proofs.turns.search_roots.Goals as goal
 
 pub loop-s-init : goal.loop-s-init
 loop-s-init c = (
-      omega arith,
-      kept_same _ _,
-      λ x q same o. subst (λ (k : ℕ). OuterIn x k c.args.workspace.now 0) (root_first c.args.sizes.guesses c.args.sizes.top) o,
-    )
+  omega arith,
+  kept_same _ _,
+  λ x q same o. subst (λ (k : ℕ). OuterIn x k c.args.workspace.now 0) (root_first c.args.sizes.guesses c.args.sizes.top) o,
+)
 
 pub state_roots-requires : goal.state_roots-requires
 state_roots-requires c =
@@ -34,8 +30,8 @@ returns-in-Loop c =
       kept = kept_on inv.1 c.state_roots.ensures.kept;
       nothing = λ x q same o e. loop_nothing _ _ _ e;
       met = λ x q same o out i a e.
-            c.state_roots.ensures.met x q same (inv.2 x q same o)
-            (omega (arith, c.loop-s-test.true, rooting_count x q same)) out i a (c.in-Loop.is ∙ e);
+          c.state_roots.ensures.met x q same (inv.2 x q same o)
+          (omega (arith, c.loop-s-test.true, rooting_count x q same)) out i a (c.in-Loop.is ∙ e);
     }
 
 pub overflow_add-s : goal.overflow_add-s
@@ -62,9 +58,9 @@ returns c =
     let sizes = c.args.sizes in record {
       kept = c.loop-s.invariant.1;
       nothing = λ x q same o e.
-            let all : c.loop-s.s ≡ x.parts.states = omega (arith, c.loop-s-test.false, c.loop-s.invariant.0, rooting_count x q same) in
-            subst (λ (k : ℕ). OuterIn x k c.loop-s.workspace 0)
-            (ap (λ (k : ℕ). root_number sizes.guesses sizes.top k 0) all ∙ root_end x)
-            (c.loop-s.invariant.2 x q same o);
+          let all : c.loop-s.s ≡ x.parts.states = omega (arith, c.loop-s-test.false, c.loop-s.invariant.0, rooting_count x q same) in
+          subst (λ (k : ℕ). OuterIn x k c.loop-s.workspace 0)
+          (ap (λ (k : ℕ). root_number sizes.guesses sizes.top k 0) all ∙ root_end x)
+          (c.loop-s.invariant.2 x q same o);
       met = λ x q same o out i a e. nothing_loop out i a e;
     }

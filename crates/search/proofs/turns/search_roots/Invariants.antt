@@ -1,16 +1,13 @@
 -- `search::turns::search_roots` meets its contract. The loop's invariant: the roots of lower states are passed. The measure is the states that are left.
 -- Assumes nothing.
-use Prim.Native.Nat.{ℕ, ◌-◌, ◌/◌, ◌≤◌}
-use native.Mathlib.Omega.{arith}
-use mathlib.Core.Path.{◌≡◌, ap, ◌∙◌, subst}
+use Prim.Native.Nat.{◌-◌, ◌/◌, ◌≤◌}
+use mathlib.Core.Path.{◌≡◌}
 use lib.ListN.{length}
-use borrow.Author.Rules.{rules}
 use Rattle.workspace.proofs.Setting.{Setting}
 use Rattle.workspace.proofs.Roots.{Rooting}
-use Rattle.workspace.proofs.Views.{Kept, kept_same, kept_on}
+use Rattle.workspace.proofs.Views.{Kept}
 use Rattle.workspace.proofs.ViewsIn.{OuterIn}
-use Rattle.workspace.proofs.RootTurnsIn.{root_number, root_first, root_end, rooting_count}
-use Rattle.search.proofs.Cases.{loop_nothing, nothing_loop}
+use Rattle.workspace.proofs.RootTurnsIn.{root_number}
 use Rattle.search.proofs.turns.search_roots.Given as goal
 
 abbrev pub invariant-loop-s : goal.invariant-loop-s

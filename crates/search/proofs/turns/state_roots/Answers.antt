@@ -1,13 +1,11 @@
 -- `search::turns::state_roots` meets its contract. The loop's invariant: the roots of the state with lower bits are passed. The measure is
 -- the bits that are left. Assumes nothing.
-use Prim.Native.Nat.{ℕ, ◌-◌, ◌≤◌, ◌<◌}
+use Prim.Native.Nat.{ℕ, ◌<◌}
 use native.Mathlib.Omega.{arith}
 use mathlib.Core.Path.{◌≡◌, sym, ap, ◌∙◌, subst}
-use borrow.Author.Rules.{rules}
 use Rattle.reading.specs.Parts.{Parts}
-use Rattle.workspace.proofs.Setting.{Setting}
 use Rattle.workspace.proofs.Roots.{Rooting, root_at}
-use Rattle.workspace.proofs.Views.{Kept, kept_same, kept_on}
+use Rattle.workspace.proofs.Views.{kept_same, kept_on}
 use Rattle.workspace.proofs.ViewsIn.{OuterIn}
 use Rattle.workspace.proofs.RootTurnsIn.{root_number, root_row}
 use Rattle.search.proofs.Cases.{loop_nothing, nothing_loop}
@@ -44,7 +42,7 @@ returns-in-Loop c =
       kept = kept_on inv.1 c.root_turn.ensures.kept;
       nothing = λ x q same o state e. loop_nothing _ _ _ e;
       met = λ x q same o state out n a e.
-            c.root_turn.ensures.met x (inv.2 x q same o state) state (is-root _ q same state) out n a (c.in-Loop.is ∙ e);
+          c.root_turn.ensures.met x (inv.2 x q same o state) state (is-root _ q same state) out n a (c.in-Loop.is ∙ e);
     }
 
 pub overflow_add-b : goal.overflow_add-b
@@ -75,8 +73,8 @@ returns c =
     let all : c.loop-b.b ≡ sizes.guesses = omega (arith, c.loop-b-test.false, c.loop-b.invariant.0) in record {
       kept = c.loop-b.invariant.1;
       nothing = λ x q same o state e.
-            subst (λ (k : ℕ). OuterIn x k c.loop-b.workspace 0)
-            (ap (root_number sizes.guesses sizes.top c.args.s) all ∙ root_row sizes.guesses sizes.top c.args.s)
-            (c.loop-b.invariant.2 x q same o state);
+          subst (λ (k : ℕ). OuterIn x k c.loop-b.workspace 0)
+          (ap (root_number sizes.guesses sizes.top c.args.s) all ∙ root_row sizes.guesses sizes.top c.args.s)
+          (c.loop-b.invariant.2 x q same o state);
       met = λ x q same o state out i a e. nothing_loop out i a e;
     }

@@ -1,16 +1,12 @@
 -- `search::turns::state_roots` meets its contract. The loop's invariant: the roots of the state with lower bits are passed. The measure is
 -- the bits that are left. Assumes nothing.
-use Prim.Native.Nat.{ℕ, ◌-◌, ◌≤◌, ◌<◌}
-use native.Mathlib.Omega.{arith}
-use mathlib.Core.Path.{◌≡◌, sym, ap, ◌∙◌, subst}
-use borrow.Author.Rules.{rules}
-use Rattle.reading.specs.Parts.{Parts}
+use Prim.Native.Nat.{◌-◌, ◌≤◌, ◌<◌}
+use mathlib.Core.Path.{◌≡◌}
 use Rattle.workspace.proofs.Setting.{Setting}
-use Rattle.workspace.proofs.Roots.{Rooting, root_at}
-use Rattle.workspace.proofs.Views.{Kept, kept_same, kept_on}
+use Rattle.workspace.proofs.Roots.{Rooting}
+use Rattle.workspace.proofs.Views.{Kept}
 use Rattle.workspace.proofs.ViewsIn.{OuterIn}
-use Rattle.workspace.proofs.RootTurnsIn.{root_number, root_row}
-use Rattle.search.proofs.Cases.{loop_nothing, nothing_loop}
+use Rattle.workspace.proofs.RootTurnsIn.{root_number}
 use Rattle.search.proofs.turns.state_roots.Given as goal
 
 abbrev pub invariant-loop-b : goal.invariant-loop-b

@@ -1,12 +1,11 @@
 -- `tracks::folds::comes_round` meets its contract. The loop's invariant: every entry of the loop passed is the one p further round. The
 -- measure is what is left of the entries. Assumes nothing.
-use Prim.Native.Nat.{ℕ, ◌+◌, ◌-◌, ◌≤◌, ◌<◌}
+use Prim.Native.Nat.{◌+◌, ◌≤◌}
 use native.Mathlib.Omega.{arith}
 use mathlib.Core.Path.{◌≡◌, sym, ap, ◌∙◌, subst}
 use mathlib.Core.Bool.{Bool, not}
 use lib.Dec.{T}
 use borrow.Author.Count.{below_more}
-use borrow.Author.Rules.{rules}
 use Rattle.meaning.specs.Runs.{position}
 use Rattle.meaning.proofs.Positions.{position_below}
 use Rattle.workspace.proofs.Tracks.{run_in}

@@ -3,7 +3,6 @@
 use Prim.Native.Nat.{◌+◌, ◌-◌}
 use native.Mathlib.Omega.{arith}
 use mathlib.Core.Path.{◌≡◌, sym, ap, ◌∙◌}
-use borrow.Author.Rules.{rules}
 use Rattle.meaning.specs.Runs.{position}
 use Rattle.meaning.proofs.Loops.{position_in, position_repeats}
 use Rattle.tracks.proofs.folds.entry_at.Goals as goal

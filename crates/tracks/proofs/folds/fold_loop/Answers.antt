@@ -1,6 +1,5 @@
 -- `tracks::folds::fold_loop` meets its contract: the loop comes round after what is returned, at the latest after a whole turn. The loop's
 -- invariant: what is tried is at least 1. The measure is what is left to try. Assumes nothing.
-use Prim.Native.Nat.{◌-◌, ◌≤◌}
 use native.Mathlib.Omega.{arith}
 use Rattle.meaning.proofs.Folds.{turn_rotates}
 use Rattle.tracks.proofs.folds.fold_loop.Goals as goal

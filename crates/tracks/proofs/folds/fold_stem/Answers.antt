@@ -1,9 +1,8 @@
 -- `tracks::folds::fold_stem` meets its contract. The loop's invariant: every entry of the stem passed is the one p further on. The measure is
 -- what is left of the stem. Assumes nothing.
-use Prim.Native.Nat.{◌≤◌}
 use native.Mathlib.Omega.{arith}
 use mathlib.Core.Path.{sym, ◌∙◌}
-use Rattle.meaning.proofs.Folds.{StemEnds, stem_ends_more}
+use Rattle.meaning.proofs.Folds.{stem_ends_more}
 use Rattle.workspace.proofs.Tracks.{run_in}
 use Rattle.tracks.proofs.folds.fold_stem.Goals as goal
 
