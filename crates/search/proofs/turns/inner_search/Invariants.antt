@@ -1,17 +1,20 @@
--- `search::turns::inner_search` meets its contract. The loop's invariant: what an inner search that begins on the workspace as pushed holds
--- of it, it holds of the workspace now; and what lies beyond 6 · P is kept. The measure is the machine's, of the inner stack. Assumes nothing.
-use Prim.Native.Nat.{ℕ}
-use mathlib.Core.List.{List}
+-- What holds inside an inner search holds now, whatever setting and place it is begun from; and what lies beyond 6 · P is kept. The measure
+-- is the machine's, of the inner stack.
+use Rattle.std.proofs.Common.{ℕ, take}
+use Rattle.graph.proofs.Machine.{below}
 use Rattle.workspace.proofs.Setting.{Setting}
 use Rattle.workspace.proofs.Views.{Kept, inner_fuel}
 use Rattle.workspace.proofs.ViewsIn.{cursors_in, InnerIn}
+use Rattle.workspace.proofs.InnerTurnsIn.{Leaving}
 use Rattle.search.proofs.turns.inner_search.Given as goal
 
 abbrev pub invariant-loop-depth : goal.invariant-loop-depth
-invariant-loop-depth l =
-    Kept l.sizes.places l.initial.workspace l.workspace
-    × ((x : Setting l.edges l.lanes l.starts l.sizes.guesses l.sizes.ones l.sizes.top l.sizes.places) (r w d : ℕ) (first : List ℕ)
-    → InnerIn x r w d first l.initial.workspace 1 → InnerIn x r w d first l.workspace l.depth)
+invariant-loop-depth l = record {
+  kept : Kept l.sizes.places l.fn.workspace l.workspace;
+  inside : (x : Setting l.edges l.lanes l.starts l.sizes.guesses l.sizes.ones l.sizes.top l.sizes.places) (r d : ℕ)
+      → Leaving x r l.fn.workspace d l.code
+      → InnerIn x r (below 1 (take l.sizes.places l.fn.workspace)) d l.fn.workspace l.workspace l.depth;
+}
 
 abbrev pub decreases-loop-depth : goal.decreases-loop-depth
 decreases-loop-depth l = inner_fuel (cursors_in l.edges) l.sizes.places l.workspace l.depth
