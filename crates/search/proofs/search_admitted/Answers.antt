@@ -9,7 +9,6 @@ use Rattle.reading.specs.Refusals.{parts_of}
 use Rattle.search.proofs.Prepared.{sizes_low, places_are, places_few, clear_zero, clear_twice, short_workspace, short_track, room_enough}
 use Rattle.search.proofs.search_admitted.Goals as goal
 
--- ---- the needs
 pub places-places-requires : goal.places-places-requires
 places-places-requires c = sizes_low _ _ c.requires
 

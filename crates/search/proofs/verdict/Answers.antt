@@ -40,7 +40,7 @@ search_roots-requires c =
     let case = c.requires.read in
     let filled = c.fill.ensures (prepared.filling bytes c.args.shape case c.state_list-states.ensures c.node_list-nodes.ensures) in
     let setting = prepared.setting bytes c.args.shape case c.edge_list-edges.ensures filled.all_lanes c.fill-2.ensures c.guesses-guesses.ensures.0
-        c.ones-ones.ensures c.requires.sized in
+    c.ones-ones.ensures c.requires.sized in
     let rooting = prepared.rooting bytes c.args.shape case c.state_list-states.ensures filled.all_rows refl c.guesses-guesses.ensures.0 in
     let begun = prepared.started setting c.args.workspace.now c.requires.room.0 c.requires.room.1 in
     (setting, rooting, refl, begun)
@@ -53,7 +53,7 @@ show-requires c =
     let case = c.requires.read in
     let filled = c.fill.ensures (prepared.filling bytes c.args.shape case c.state_list-states.ensures c.node_list-nodes.ensures) in
     let setting = prepared.setting bytes c.args.shape case c.edge_list-edges.ensures filled.all_lanes c.fill-2.ensures c.guesses-guesses.ensures.0
-        c.ones-ones.ensures c.requires.sized in
+    c.ones-ones.ensures c.requires.sized in
     let rooting = prepared.rooting bytes c.args.shape case c.state_list-states.ensures filled.all_rows refl c.guesses-guesses.ensures.0 in
     let begun = prepared.started setting c.args.workspace.now c.requires.room.0 c.requires.room.1 in
     let met = c.search_roots.ensures.met setting rooting refl begun _ _ _ c.in-Loop.is in
@@ -74,7 +74,7 @@ returns-in-Nothing c =
     let case = c.requires.read in
     let filled = c.fill.ensures (prepared.filling bytes c.args.shape case c.state_list-states.ensures c.node_list-nodes.ensures) in
     let setting = prepared.setting bytes c.args.shape case c.edge_list-edges.ensures filled.all_lanes c.fill-2.ensures c.guesses-guesses.ensures.0
-        c.ones-ones.ensures c.requires.sized in
+    c.ones-ones.ensures c.requires.sized in
     let rooting = prepared.rooting bytes c.args.shape case c.state_list-states.ensures filled.all_rows refl c.guesses-guesses.ensures.0 in
     let begun = prepared.started setting c.args.workspace.now c.requires.room.0 c.requires.room.1 in
     record {
@@ -88,7 +88,7 @@ returns-in-Loop c =
     let case = c.requires.read in
     let filled = c.fill.ensures (prepared.filling bytes c.args.shape case c.state_list-states.ensures c.node_list-nodes.ensures) in
     let setting = prepared.setting bytes c.args.shape case c.edge_list-edges.ensures filled.all_lanes c.fill-2.ensures c.guesses-guesses.ensures.0
-        c.ones-ones.ensures c.requires.sized in
+    c.ones-ones.ensures c.requires.sized in
     let rooting = prepared.rooting bytes c.args.shape case c.state_list-states.ensures filled.all_rows refl c.guesses-guesses.ensures.0 in
     let begun = prepared.started setting c.args.workspace.now c.requires.room.0 c.requires.room.1 in
     let met = c.search_roots.ensures.met setting rooting refl begun _ _ _ c.in-Loop.is in

@@ -1,6 +1,6 @@
 -- `judge::refuse::check_stored` meets its contract: each answer is its row's, by the tests before it. Assumes nothing.
 use Prim.Native.Nat.{◌+◌, ◌/◌, ◌<◌}
-use mathlib.Core.Path.{◌≡◌, sym, ap, ◌∙◌}
+use mathlib.Core.Path.{sym, ap, ◌∙◌}
 use native.Mathlib.Omega.{arith}
 use lib.ListN.{length}
 use borrow.Author.Tests.{leb-false, not-true, not-false}
@@ -26,21 +26,21 @@ initial-requires c =
 
 pub returns-then-not-initial : goal.returns-then-not-initial
 returns-then-not-initial c =
-    let asked : c.initial.result ≡ (table_from c.args.states.now c.args.edges.now).initial (at c.args.track.now 0) = c.initial.ensures ∙ ap (initial_of c.args.states.now) c.entry.ensures in
+    let asked = c.initial.ensures ∙ ap (initial_of c.args.states.now) c.entry.ensures in
     let a = c.args in
     refused_53 ((table_from c.args.states.now c.args.edges.now)) a.track.now a.k a.m a.room _ c.lowest_outside-outside.ensures (omega arith)
     (sym asked ∙ not-true _ c.if-not-initial.true-raw)
 
 pub returns-then-gap-k : goal.returns-then-gap-k
 returns-then-gap-k c =
-    let asked : c.initial.result ≡ (table_from c.args.states.now c.args.edges.now).initial (at c.args.track.now 0) = c.initial.ensures ∙ ap (initial_of c.args.states.now) c.entry.ensures in
+    let asked = c.initial.ensures ∙ ap (initial_of c.args.states.now) c.entry.ensures in
     let a = c.args in
     refused_54 ((table_from c.args.states.now c.args.edges.now)) a.track.now a.k a.m a.room _ c.lowest_outside-outside.ensures (omega arith)
     (sym asked ∙ not-false _ c.if-not-initial.false-raw) _ c.lowest_gap-gap.ensures (omega arith)
 
 pub returns-then-room-k : goal.returns-then-room-k
 returns-then-room-k c =
-    let asked : c.initial.result ≡ (table_from c.args.states.now c.args.edges.now).initial (at c.args.track.now 0) = c.initial.ensures ∙ ap (initial_of c.args.states.now) c.entry.ensures in
+    let asked = c.initial.ensures ∙ ap (initial_of c.args.states.now) c.entry.ensures in
     let a = c.args in
     refused_40 ((table_from c.args.states.now c.args.edges.now)) a.track.now a.k a.m a.room _ c.lowest_outside-outside.ensures (omega arith)
     (sym asked ∙ not-false _ c.if-not-initial.false-raw) _
@@ -48,7 +48,7 @@ returns-then-room-k c =
 
 pub returns : goal.returns
 returns c =
-    let asked : c.initial.result ≡ (table_from c.args.states.now c.args.edges.now).initial (at c.args.track.now 0) = c.initial.ensures ∙ ap (initial_of c.args.states.now) c.entry.ensures in
+    let asked = c.initial.ensures ∙ ap (initial_of c.args.states.now) c.entry.ensures in
     let a = c.args in
     passed_stored ((table_from c.args.states.now c.args.edges.now)) a.track.now a.k a.m a.room _ c.lowest_outside-outside.ensures (omega arith)
     (sym asked ∙ not-false _ c.if-not-initial.false-raw) _

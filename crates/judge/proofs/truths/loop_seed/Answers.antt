@@ -23,8 +23,13 @@ loop-i-init c =
 pub loop-i-preserved : goal.loop-i-preserved
 loop-i-preserved c =
     let a = c.args in
-    let at-loop = c.loop-i in
-    (omega arith, omega arith, c.carried-next.ensures.1, pass_digit (now_in (node_is a.node) a.scratch.now) (stay_in (node_is a.node) a.scratch.now) (greatest a.node.operator) (a.k + a.m) at-loop.i at-loop.next _ at-loop.invariant.3 c.carried-next.ensures.0 (omega arith) (omega arith))
+    let at-loop = c.loop-i in (
+      omega arith,
+      omega arith,
+      c.carried-next.ensures.1,
+      pass_digit (now_in (node_is a.node) a.scratch.now) (stay_in (node_is a.node) a.scratch.now) (greatest a.node.operator) (a.k + a.m)
+          at-loop.i at-loop.next _ at-loop.invariant.3 c.carried-next.ensures.0 (omega arith) (omega arith),
+    )
 
 pub returns : goal.returns
 unfolding seed

@@ -27,7 +27,7 @@ loop-depth-init c =
     let size = a.sizes.places in
     let number = number_in a.sizes.guesses a.sizes.top a.root in
     let begun : c.push.new.workspace ≡ pushed size size 0 a.root (set a.workspace.now number cyan) =
-        c.push.ensures ∙ ap (pushed size size 0 a.root) c.paint.ensures in
+    c.push.ensures ∙ ap (pushed size size 0 a.root) c.paint.ensures in
     record {
       kept = subst (λ (l : List ℕ). Kept size a.workspace.now l) (sym begun) (root_kept c.requires.0 c.requires.1);
       inside = λ x root. subst (λ (l : List ℕ). OuterIn x (number + 1) l 1) (sym begun) (root_begun x root);

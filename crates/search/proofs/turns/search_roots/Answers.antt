@@ -18,7 +18,8 @@ loop-s-init c = (
 
 pub state_roots-requires : goal.state_roots-requires
 state_roots-requires c =
-    (c.requires.0, c.requires.1, c.requires.2, c.loop-s.invariant.2 c.requires.0 c.requires.1 c.requires.2 c.requires.3, omega (arith, c.loop-s-test.true, rooting_count c.requires.0 c.requires.1 c.requires.2))
+    let p = c.requires in
+    (p.0, p.1, p.2, c.loop-s.invariant.2 p.0 p.1 p.2 p.3, omega (arith, c.loop-s-test.true, rooting_count p.0 p.1 p.2))
 
 pub shape_of-workspace-in-Loop : goal.shape_of-workspace-in-Loop
 shape_of-workspace-in-Loop c =
@@ -35,7 +36,7 @@ returns-in-Loop c =
     }
 
 pub overflow_add-s : goal.overflow_add-s
-overflow_add-s c = omega (arith, c.loop-s-test.true, c.before)
+overflow_add-s c = omega (arith, c.loop-s-test.true)
 
 pub loop-s-smaller : goal.loop-s-smaller
 loop-s-smaller c = omega (arith, c.loop-s-test.true)

@@ -4,14 +4,13 @@ use Prim.Native.Nat.{ℕ, ◌<◌}
 use native.Mathlib.Omega.{arith}
 use mathlib.Core.Path.{◌≡◌, sym, ap, ◌∙◌, subst}
 use Rattle.reading.specs.Parts.{Parts}
-use Rattle.workspace.proofs.Roots.{Rooting, root_at}
+use Rattle.workspace.proofs.Roots.{root_at}
 use Rattle.workspace.proofs.Views.{kept_same, kept_on}
 use Rattle.workspace.proofs.ViewsIn.{OuterIn}
 use Rattle.workspace.proofs.RootTurnsIn.{root_number, root_row}
 use Rattle.search.proofs.Cases.{loop_nothing, nothing_loop}
 use Rattle.search.proofs.turns.state_roots.Goals as goal
 
--- ---- the needs
 pub loop-b-init : goal.loop-b-init
 loop-b-init c = (omega arith, kept_same _ _, λ x q same o state. o)
 
@@ -21,11 +20,11 @@ is_initial-initial-requires c =
 
 pub root_turn-requires : goal.root_turn-requires
 root_turn-requires c =
-    let is-root : (p : Parts) (q : (Rooting c.args.states.now c.args.rows.now c.args.last c.args.sizes.guesses)) → q.parts ≡ p → c.args.s < p.states
-    → c.is_initial-initial.result ≡ root_at p c.args.sizes.guesses c.args.s c.loop-b.b = λ p q same state. c.is_initial-initial.ensures q (subst (λ (p : Parts). c.args.s < p.states) (sym same) state)
-    ∙ ap (λ (p : Parts). root_at p c.args.sizes.guesses c.args.s c.loop-b.b) same in
+    let p = c.requires in
+    let root = c.is_initial-initial.ensures p.1 (subst (λ (p : Parts). c.args.s < p.states) (sym p.2) p.4)
+    ∙ ap (λ (p : Parts). root_at p c.args.sizes.guesses c.args.s c.loop-b.b) p.2 in
     record {
-      setting = (c.requires.0, c.loop-b.invariant.2 c.requires.0 c.requires.1 c.requires.2 c.requires.3 c.requires.4, c.requires.4, is-root _ c.requires.1 c.requires.2 c.requires.4);
+      setting = (p.0, c.loop-b.invariant.2 p.0 p.1 p.2 p.3 p.4, p.4, root);
       guess = c.loop-b-test.true;
     }
 
@@ -35,33 +34,31 @@ shape_of-workspace-in-Loop c =
 
 pub returns-in-Loop : goal.returns-in-Loop
 returns-in-Loop c =
-    let is-root : (p : Parts) (q : (Rooting c.args.states.now c.args.rows.now c.args.last c.args.sizes.guesses)) → q.parts ≡ p → c.args.s < p.states
-    → c.is_initial-initial.result ≡ root_at p c.args.sizes.guesses c.args.s c.loop-b.b = λ p q same state. c.is_initial-initial.ensures q (subst (λ (p : Parts). c.args.s < p.states) (sym same) state)
-    ∙ ap (λ (p : Parts). root_at p c.args.sizes.guesses c.args.s c.loop-b.b) same in
     let inv = c.loop-b.invariant in record {
       kept = kept_on inv.1 c.root_turn.ensures.kept;
       nothing = λ x q same o state e. loop_nothing _ _ _ e;
       met = λ x q same o state out n a e.
-          c.root_turn.ensures.met x (inv.2 x q same o state) state (is-root _ q same state) out n a (c.in-Loop.is ∙ e);
+          let root = c.is_initial-initial.ensures q (subst (λ (p : Parts). c.args.s < p.states) (sym same) state)
+          ∙ ap (λ (p : Parts). root_at p c.args.sizes.guesses c.args.s c.loop-b.b) same in
+          c.root_turn.ensures.met x (inv.2 x q same o state) state root out n a (c.in-Loop.is ∙ e);
     }
 
 pub overflow_add-b : goal.overflow_add-b
 overflow_add-b c =
-    omega (arith, c.loop-b-test.true, c)
+    omega (arith, c.loop-b-test.true)
 
 pub loop-b-smaller : goal.loop-b-smaller
 loop-b-smaller c = omega (arith, c.loop-b-test.true)
 
 pub loop-b-preserved : goal.loop-b-preserved
 loop-b-preserved c =
-    let is-root : (p : Parts) (q : (Rooting c.args.states.now c.args.rows.now c.args.last c.args.sizes.guesses)) → q.parts ≡ p → c.args.s < p.states
-    → c.is_initial-initial.result ≡ root_at p c.args.sizes.guesses c.args.s c.loop-b.b = λ p q same state. c.is_initial-initial.ensures q (subst (λ (p : Parts). c.args.s < p.states) (sym same) state)
-    ∙ ap (λ (p : Parts). root_at p c.args.sizes.guesses c.args.s c.loop-b.b) same in
     let inv = c.loop-b.invariant in (
       omega (arith, c.loop-b-test.true),
       kept_on inv.1 c.root_turn.ensures.kept,
       λ x q same o state.
-          c.root_turn.ensures.nothing x (inv.2 x q same o state) state (is-root _ q same state) c.in-Nothing.is,
+          let root = c.is_initial-initial.ensures q (subst (λ (p : Parts). c.args.s < p.states) (sym same) state)
+          ∙ ap (λ (p : Parts). root_at p c.args.sizes.guesses c.args.s c.loop-b.b) same in
+          c.root_turn.ensures.nothing x (inv.2 x q same o state) state root c.in-Nothing.is,
     )
 
 pub shape_of-workspace : goal.shape_of-workspace
