@@ -144,6 +144,9 @@ fn add_pattern_row(lane: u16, count: usize, n: usize, rows: &mut [u16; 2048])
     }
 }
 
+// The operator X.
+const NEXT: usize = 6;
+
 // What temporal node n reads of the next place: X its operand, operators 7 to 11 themselves.
 fn carry_lane(nodes: &[u8], n: usize, s: usize, rows: &[u16; 2048]) -> u16
     requires { Ready nodes.now n × (s < 64) }
@@ -151,7 +154,7 @@ fn carry_lane(nodes: &[u8], n: usize, s: usize, rows: &[u16; 2048]) -> u16
         → Rows table (node_of nodes.now) (suc n) rows.now
         → Lane (carried table (node_of nodes.now) n s) result }
 {
-    if parts::operator(nodes, n) == 6 {
+    if parts::operator(nodes, n) == NEXT {
         return row_lane(rows, parts::first(nodes, n), s);
     }
     row_lane(rows, n, s)

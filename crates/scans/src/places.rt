@@ -88,6 +88,9 @@ pub fn number_of(sizes: Sizes, code: usize) -> usize
     number(sizes, state(code), bits(code), waiting(code))
 }
 
+// A bit that is set.
+const SET: u16 = 1;
+
 // Whether the place of state s and bits b with waiting number 0 is initial: the state is, and the rule's lane, at `last` and on, is
 // false there.
 pub fn is_initial(
@@ -106,7 +109,7 @@ pub fn is_initial(
         return false;
     }
     let lane = rows[last + s];
-    if lane >> b & 1 == 1 {
+    if lane >> b & 1 == SET {
         return false;
     }
     parts::initial(states, s)

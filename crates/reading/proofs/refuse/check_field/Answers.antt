@@ -2,6 +2,9 @@
 -- Assumes nothing.
 use borrow.Author.Tests.{lt-ltb, le-ltb}
 use Rattle.reading.specs.Refusals.{field_refusal}
+use Rattle.std.proofs.lemmas.Grind.{common_steps}
+use native.Mathlib.Omega.{arith}
+use Rattle.reading.specs.Refusals.{refuse_if}
 use Rattle.reading.proofs.refuse.check_field.Goals as goal
 
 pub returns-then-bytes-at : goal.returns-then-bytes-at
@@ -20,16 +23,8 @@ returns-then-not-tag_right c =
     )
 
 pub returns-then-not-size_right : goal.returns-then-not-size_right
-unfolding field_refusal
-returns-then-not-size_right c =
-    simp (
-      le-ltb _ _ c.if-bytes-at.false,
-      ← c.byte.ensures.0,
-      ← c.length_at-size.ensures.0,
-      ← c.in_steps-size_right.ensures,
-      c.if-not-tag_right.false-raw,
-      c.if-not-size_right.true-raw,
-    )
+unfolding field_refusal refuse_if
+returns-then-not-size_right c = grind (arith, common_steps, le-ltb)
 
 pub returns-then-bytes-at-2 : goal.returns-then-bytes-at-2
 unfolding field_refusal

@@ -30,8 +30,8 @@ overflow_cast-b c = omega (arith, c.if-sizes-b.false, rooting_guesses c.requires
 pub overflow_shr-lane : goal.overflow_shr-lane
 overflow_shr-lane c = omega (arith, c.if-sizes-b.false, rooting_guesses c.requires.0)
 
-pub returns-then-lane-b-eq1 : goal.returns-then-lane-b-eq1
-returns-then-lane-b-eq1 c of h = sym (root_true of _ _ h c.if-sizes-b.false (set-bit _ _ c.if-lane-b-eq1.true))
+pub returns-then-lane-b-eq-SET : goal.returns-then-lane-b-eq-SET
+returns-then-lane-b-eq-SET c of h = sym (root_true of _ _ h c.if-sizes-b.false (set-bit _ _ c.if-lane-b-eq-SET.true))
 
 pub initial-requires : goal.initial-requires
 initial-requires c =
@@ -39,4 +39,4 @@ initial-requires c =
 
 pub returns : goal.returns
 returns c of h =
-    c.initial.ensures ∙ sym (root_false of _ _ h c.if-sizes-b.false (clear-bit _ _ c.if-lane-b-eq1.false))
+    c.initial.ensures ∙ sym (root_false of _ _ h c.if-sizes-b.false (clear-bit _ _ c.if-lane-b-eq-SET.false))
