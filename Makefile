@@ -15,8 +15,8 @@ test:
 
 run:
 	@test -f "$(CASE)" || { echo "usage: make run CASE=cases/night-update.case"; exit 2; }
-	@mkdir -p build && rt check bench >build/bench.log 2>&1 || { cat build/bench.log; exit 1; }
-	@target/bin/bench <"$(CASE)"
+	@tools/program
+	@build/bench <"$(CASE)"
 
 lib:
 	@tools/lib

@@ -2,12 +2,12 @@
 -- and the measure. Its turns, each a law of `OuterTurns` or `InnerTurns` that gives the lists afterwards:
 --   root        an initial white place is painted cyan and pushed on the empty outer stack with cursor 0
 --   advance     a scan of the outer top finds a white place: it is painted cyan and pushed
---   leave-blue  a scan of the outer top finds none, and the top is not marked: it is painted blue and popped
+--   leave_blue  a scan of the outer top finds none, and the top is not marked: it is painted blue and popped
 --   begin       a scan of the outer top finds none, and the top is marked: the inner stack is the top, with cursor 0
 --   found       a scan of the inner top finds a cyan place
---   inner-push  a scan of the inner top finds a blue place: it is painted red and pushed
---   inner-pop   a scan of the inner top finds none: the inner top is popped
---   leave-red   the inner stack is empty: the outer top is painted red and popped
+--   inner_push  a scan of the inner top finds a blue place: it is painted red and pushed
+--   inner_pop   a scan of the inner top finds none: the inner top is popped
+--   leave_red   the inner stack is empty: the outer top is painted red and popped
 use Prim.Native.Nat.{ℕ, suc, ◌+◌, ◌-◌, ◌*◌, ◌≤◌, ◌<◌}
 use mathlib.Core.Path.{◌≡◌}
 use mathlib.Core.Logic.{◌≢◌}

@@ -1,6 +1,6 @@
 -- The state list while it is filled, and what the settled answer says of it. No code.
 --     mid states xs s      the first s records of field 02's value, and then xs from s on
---     mid-next             with record s stored at s, it is the next one
+--     mid_next             with record s stored at s, it is the next one
 --     Settled              how many records are filled: they fit, the case has them, and with them the list is as it must be
 -- Assumes nothing.
 use Prim.Native.Nat.{ℕ, zero, suc, ◌+◌, ◌*◌, ◌≤◌, ◌<◌}

@@ -1,4 +1,4 @@
-// The bench for C: each entry of include/mullodai.h, thin over the crates below. No entry requires anything of its caller.
+// The bench's entries, thin over the crates below. No entry requires anything of its caller. `mullodai_c` exports them for C.
 #![tactic(auto)]
 
 ghost use Rattle.std.specs.Prelude.{◌≡◌, cond, ◌<◌, eqb};
@@ -20,8 +20,7 @@ pub struct StateAnswer {
 }
 
 // Reads one state of a case.
-#[unsafe(no_mangle)]
-pub extern "C" fn mullodai_state(bytes: &[u8], state: u64) -> StateAnswer
+pub fn mullodai_state(bytes: &[u8], state: u64) -> StateAnswer
     ensures { StateOutcome bytes.now state result }
 {
     match reading::state(bytes, state as usize) {
@@ -64,8 +63,7 @@ pub struct Answer {
 
 // Fills a lent list with the states of a case. The answer is settled first, and with it how many records are filled, so that
 // the loop has no branch.
-#[unsafe(no_mangle)]
-pub extern "C" fn mullodai_states(bytes: &[u8], list: &mut [StateRecord]) -> Answer
+pub fn mullodai_states(bytes: &[u8], list: &mut [StateRecord]) -> Answer
     ensures { StatesOutcome bytes.now list.old result list.new }
 {
     let answer = states_answer(bytes, list.len());
@@ -79,14 +77,7 @@ pub extern "C" fn mullodai_states(bytes: &[u8], list: &mut [StateRecord]) -> Ans
 }
 
 // Judges the run of stem k and loop m that the track holds: 0 satisfies, 1 violates.
-#[unsafe(no_mangle)]
-pub extern "C" fn mullodai_judge(
-    bytes: &[u8],
-    track: &[u16],
-    k: u64,
-    m: u64,
-    scratch: &mut [u32],
-) -> Answer
+pub fn mullodai_judge(bytes: &[u8], track: &[u16], k: u64, m: u64, scratch: &mut [u32]) -> Answer
     ensures { JudgeOutcome bytes.now track.now k m scratch.old result scratch.new }
 {
     let answer = judge::judge(bytes, track, k, m, scratch);
@@ -94,8 +85,7 @@ pub extern "C" fn mullodai_judge(
 }
 
 // Searches for a run that breaks the case's rule: 0 holds; 1 violated, with the run in the track and its stem and loop.
-#[unsafe(no_mangle)]
-pub extern "C" fn mullodai_search(bytes: &[u8], workspace: &mut [u16], track: &mut [u16]) -> Answer
+pub fn mullodai_search(bytes: &[u8], workspace: &mut [u16], track: &mut [u16]) -> Answer
     ensures { SearchOutcome bytes.now workspace.old track.old result workspace.new track.new }
 {
     search_answer(search::search(bytes, workspace, track))
