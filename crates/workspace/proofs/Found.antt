@@ -17,7 +17,7 @@ use Rattle.product.specs.Product.{numbering}
 use Rattle.product.proofs.Steps.{successor↔tests}
 use Rattle.workspace.proofs.Setting.{product_of, edge_at, candidate, cand_of, cursors_of, code_of, decoded, number_of, Coded, Setting}
 use Rattle.workspace.proofs.Case.{width_is, top_is as top_counts, guesses_within, top_within, next_within, Leads, candidate_leads}
-use Rattle.workspace.proofs.Case.{leads_candidate, candidate_below, size_is as size-Counts, start_within, coded_place, code_coded, code_decoded, graph_of}
+use Rattle.workspace.proofs.Case.{leads_candidate, candidate_below, size_is as size_counts, start_within, coded_place, code_coded, code_decoded, graph_of}
 use Rattle.workspace.proofs.Scanning.{cursors_in, fits_at, index_at, Passed, Stops, Scannable}
 use Rattle.workspace.proofs.Candidates.{end_open, line_here, end_here, first_is, after_is, to_is, next_here, line_leads, Lies, leads_line}
 
@@ -81,7 +81,7 @@ module _ {edges lanes starts : List ℕ} {guesses ones top' size : ℕ} (c : Set
         inside = λ a h f.
             omega (
               arith,
-              size-Counts c.parts c.admitted,
+              size_counts c.parts c.admitted,
               candidate_below c.parts c.admitted (decoded code) a (index_at (line_here c code is) a) (leads a h f),
             );
       }
@@ -97,7 +97,7 @@ module _ {edges lanes starts : List ℕ} {guesses ones top' size : ℕ} (c : Set
         let l = subst (λ (q : Place). Leads c.parts q a y) here (candidate_leads c.parts (number_of c.parts code) a y e) in
         let lies = leads_line c code is a y l in
         let below : y < places c.parts =
-        omega (arith, size-Counts c.parts c.admitted, candidate_below c.parts c.admitted (decoded code) a y l) in
+        omega (arith, size_counts c.parts c.admitted, candidate_below c.parts c.admitted (decoded code) a y l) in
         (lies, get_or-take (places c.parts) ws y 0 below ∙ ap (λ (i : ℕ). get_or ws i 0) (sym lies.lies))
 
     pub passed_skips : (cursor e : ℕ) → Passed (line_here c code is) ws limit cursor e

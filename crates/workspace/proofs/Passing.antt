@@ -70,16 +70,16 @@ module _ (l : Line) where
     passed_none = record { passes = λ a low high. absurd (omega arith) }
 
     -- a turn at cursor c, whose edge enters state s, and with the fitting lane `fit`
-    module _ (c s fit : ℕ) (low : c < end) (s-is : s ≡ to_at l c) (fit_is : fit ≡ fitting_in l.lanes l.ones l.state l.bits s) where
+    module _ (c s fit : ℕ) (low : c < end) (s_is : s ≡ to_at l c) (fit_is : fit ≡ fitting_in l.lanes l.ones l.state l.bits s) where
       abbrev colour : ℕ → ℕ
       colour j = get_or ws (index_in l.guesses l.top s l.next j) 0
 
       -- bit j of the fitting lane speaks of the cursor of this edge and the bits j
       fits_is : (a : ℕ) → a / 16 ≡ c / 16 → fits_at l a ≡ bit fit (a % 16)
-      fits_is a e = rw (same_edge c a e, fit_is, s-is)
+      fits_is a e = rw (same_edge c a e, fit_is, s_is)
 
       index_is : (a : ℕ) → a / 16 ≡ c / 16 → index_at l a ≡ index_in l.guesses l.top s l.next (a % 16)
-      index_is a e = rw (same_edge c a e, s-is)
+      index_is a e = rw (same_edge c a e, s_is)
 
       module _ (j : ℕ) (h : j < 16) where
         edge_at : (c / 16 * 16 + j) / 16 ≡ c / 16
@@ -117,7 +117,7 @@ module _ (l : Line) where
               from = omega (arith, u.from);
               low = low_at r h;
               fits = fits_at_lem r h ∙ u.set h;
-              is = rw (same_edge c (c / 16 * 16 + r) (edge_at r h), bits_at r h, s-is);
+              is = rw (same_edge c (c / 16 * 16 + r) (edge_at r h), bits_at r h, s_is);
               under = rw (index_at_lem r h) (u.under h);
               before = turn_passed (c / 16 * 16 + r) (omega arith) (omega arith);
             }
