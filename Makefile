@@ -4,7 +4,7 @@
 
 help:
 	@echo "make run CASE=cases/night-update.case   check a case, and print the verdict"
-	@echo "make test                               prove everything from nothing, and run every comparison"
+	@echo "make test                               prove everything, and run every comparison"
 	@echo "make lib                                build/libmullodai.a and build/mullodai.h, for C"
 	@echo "make speed                              time the search against an ordinary Rust checker"
 	@echo "make fuzz                               the four C entries under random load, with guarded buffers"

@@ -1,5 +1,6 @@
 -- What the program prints of a case: "Bench program: reads standard input and runs the search".
-use Rattle.std.specs.Prelude.{ℕ, Result, IfOk, ◌≤◌, ◌⊎◌, List, ◌≡◌, take, drop}
+use Rattle.std.specs.Prelude.{ℕ, Result, Option, IfOk, length, ◌<◌, ◌≤◌, ◌⊎◌, List, ◌≡◌, take, drop}
+use Rattle.std.specs.Io.KnownBytes.{Consumes, IsAtEnd}
 use Rattle.meaning.specs.Runs.{Violates, Holds}
 use Rattle.reading.specs.Answers.{number_of, place_of}
 use Rattle.reading.specs.Parts.{Parts, table_of, rule_of}
@@ -36,3 +37,8 @@ verdict_of a = record { number = number a; place = place a; stem = stem a; repea
 -- the bytes that were read fit the room
 abbrev pub Within : {E : Type 0} → Result ℕ E → ℕ → Type 0
 Within result room = IfOk result (λ length. length ≤ room)
+
+-- what was read is what the reader had next, and all of it where the room is not full
+abbrev pub Takes : {E : Type 0} → Option (List ℕ) → Option (List ℕ) → Result ℕ E → List ℕ → Type 0
+Takes before after result room =
+    IfOk result (λ taken. Consumes before after (take taken room) × (taken < length room → IsAtEnd after))

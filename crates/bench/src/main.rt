@@ -2,7 +2,7 @@
 #![tactic(auto)]
 
 ghost use Rattle.std.specs.Prelude.{◌≡◌, length};
-ghost use Rattle.bench.specs.Told.{verdict_of, Told, Within};
+ghost use Rattle.bench.specs.Told.{verdict_of, Told, Within, Takes};
 
 use search::SearchAnswer;
 use std::io;
@@ -39,7 +39,8 @@ fn main(rt: HostRuntime) -> io::Result<()> {
 
 // Reads until the input ends or the room is full.
 fn read_case<R: Read>(from: &mut R, room: &mut [u8]) -> io::Result<usize>
-    ensures { Within result (length room.new) }
+    ensures within { Within result (length room.new) }
+    ensures taken { Takes (R.remaining from.old) (R.remaining from.new) result room.new }
 {
     let mut taken = 0;
     while taken < room.len() {

@@ -8,15 +8,12 @@ use Rattle.filled.proofs.Adding.{filled_plain, filled_temporal}
 use Rattle.lanes.proofs.add_node.Goals as goal
 
 pub operator-operator-requires : goal.operator-operator-requires
-operator-operator-requires c =
-    let node-ready : Ready c.args.nodes.now c.args.n = ready c.requires.0 c.args.n (omega arith) in
-    node-ready.bytes
+operator-operator-requires c = (ready c.requires.0 c.args.n (omega arith)).bytes
 
 pub add_plain_row-requires : goal.add_plain_row-requires
 add_plain_row-requires c =
-    let node-ready : Ready c.args.nodes.now c.args.n = ready c.requires.0 c.args.n (omega arith) in
     let plain : (node_of c.args.nodes.now c.args.n).operator < 6 = omega (arith, c.operator-operator.ensures, c.if-operator-lt6.true) in
-    (node-ready, plain, few_states c.requires.0, state_bytes c.requires.0, c.requires.2)
+    (ready c.requires.0 c.args.n (omega arith), plain, few_states c.requires.0, state_bytes c.requires.0, c.requires.2)
 
 pub returns-then-operator-lt6 : goal.returns-then-operator-lt6
 returns-then-operator-lt6 c table stated old =
@@ -27,22 +24,14 @@ returns-then-operator-lt6 c table stated old =
 pub pattern-requires : goal.pattern-requires
 pattern-requires c =
     let high : 6 ≤ (node_of c.args.nodes.now c.args.n).operator = omega (arith, c.operator-operator.ensures, c.if-operator-lt6.false) in
-    let room : c.args.before.temporals < 4 = omega (
-      arith,
-      few_temporals c.requires.0,
-      length_more 6 (node_of c.args.nodes.now) c.args.n high,
-      c.requires.1.temporals_are,
-    ) in
-    room
+    omega (arith, few_temporals c.requires.0, length_more 6 (node_of c.args.nodes.now) c.args.n high, c.requires.1.temporals_are)
 
 pub add_pattern_row-requires : goal.add_pattern_row-requires
 add_pattern_row-requires c =
-    let node-ready : Ready c.args.nodes.now c.args.n = ready c.requires.0 c.args.n (omega arith) in
-    (node-ready.low, few_states c.requires.0, c.requires.2)
+    ((ready c.requires.0 c.args.n (omega arith)).low, few_states c.requires.0, c.requires.2)
 
 pub add_lanes-requires : goal.add_lanes-requires
 add_lanes-requires c =
-    let node-ready : Ready c.args.nodes.now c.args.n = ready c.requires.0 c.args.n (omega arith) in
     let high : 6 ≤ (node_of c.args.nodes.now c.args.n).operator = omega (arith, c.operator-operator.ensures, c.if-operator-lt6.false) in
     let room : c.args.before.temporals < 4 = omega (
       arith,
@@ -50,7 +39,7 @@ add_lanes-requires c =
       length_more 6 (node_of c.args.nodes.now) c.args.n high,
       c.requires.1.temporals_are,
     ) in
-    (node-ready, high, few_states c.requires.0, room, c.requires.1, c.requires.3)
+    (ready c.requires.0 c.args.n (omega arith), high, few_states c.requires.0, room, c.requires.1, c.requires.3)
 
 pub counted-requires : goal.counted-requires
 counted-requires c =

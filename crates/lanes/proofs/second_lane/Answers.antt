@@ -9,8 +9,8 @@ use Rattle.lanes.proofs.second_lane.Goals as goal
 
 pub row_lane-requires : goal.row_lane-requires
 row_lane-requires c =
-    let count-is : c.operands.result ≡ operands (node_of c.args.nodes.now c.args.n).operator = c.operands.ensures ∙ ap operands c.operator.ensures in
-    let lower = c.requires.0.second_lower (omega (arith, count-is, c.if-operands-ge2.true)) in
+    let count_is : c.operands.result ≡ operands (node_of c.args.nodes.now c.args.n).operator = c.operands.ensures ∙ ap operands c.operator.ensures in
+    let lower = c.requires.0.second_lower (omega (arith, count_is, c.if-operands-ge2.true)) in
     (omega (arith, lower, c.second.ensures, c.requires.0.low), c.requires.1)
 
 pub returns-then-operands-ge2 : goal.returns-then-operands-ge2
@@ -19,5 +19,5 @@ returns-then-operands-ge2 c =
 
 pub returns : goal.returns
 returns c =
-    let count-is : c.operands.result ≡ operands (node_of c.args.nodes.now c.args.n).operator = c.operands.ensures ∙ ap operands c.operator.ensures in
-    λ h. absurd (omega (arith, count-is, c.if-operands-ge2.false))
+    let count_is : c.operands.result ≡ operands (node_of c.args.nodes.now c.args.n).operator = c.operands.ensures ∙ ap operands c.operator.ensures in
+    λ h. absurd (omega (arith, count_is, c.if-operands-ge2.false))

@@ -3,75 +3,54 @@
 use Prim.Native.Nat.{ℕ, ◌+◌, ◌*◌}
 use mathlib.Core.Path.{◌≡◌, sym, ap, ◌∙◌}
 use native.Mathlib.Omega.{arith}
-use lib.ListN.{length-take, length-drop}
+use mathlib.Core.List.{List}
+use lib.ListN.{get_or, length-take, length-drop}
 use Rattle.reading.specs.Refusals.{length_at, at03}
 use Rattle.reading.proofs.Read.{read_refused, read_passed}
-use Rattle.reading.proofs.Spans.{Offsets, offsets, parts_taken}
+use Rattle.reading.proofs.Spans.{offsets, parts_taken}
 use Rattle.reading.proofs.admit_parts.Goals as goal
 
+-- the length of field 03, at the place that the number of states gives
+size_is : (bytes : List ℕ) (states size : ℕ) → states ≡ get_or bytes 3 0 → size ≡ length_at bytes (8 + 3 * states)
+    → size ≡ length_at bytes (at03 bytes)
+size_is bytes states size e h = h ∙ ap (λ (s : ℕ). length_at bytes (8 + 3 * s)) e
+
 pub byte-states-requires : goal.byte-states-requires
-byte-states-requires c =
-    let off : Offsets c.args.bytes.now = offsets _ c.requires in
-    omega (arith, off)
+byte-states-requires c = omega (arith, offsets _ c.requires)
 
 pub byte-atoms-requires : goal.byte-atoms-requires
-byte-atoms-requires c =
-    let off : Offsets c.args.bytes.now = offsets _ c.requires in
-    omega (arith, off)
+byte-atoms-requires c = omega (arith, offsets _ c.requires)
 
 pub length_at-requires : goal.length_at-requires
-length_at-requires c =
-    let off : Offsets c.args.bytes.now = offsets _ c.requires in
-    omega (arith, off, c.byte-states.ensures.0)
+length_at-requires c = omega (arith, offsets _ c.requires, c.byte-states.ensures.0)
 
 pub slice_bounds-state_list-end : goal.slice_bounds-state_list-end
-slice_bounds-state_list-end c =
-    let off : Offsets c.args.bytes.now = offsets _ c.requires in
-    omega (arith, off, c.byte-states.ensures.0)
+slice_bounds-state_list-end c = omega (arith, offsets _ c.requires, c.byte-states.ensures.0)
 
 pub slice_bounds-edge_list-end : goal.slice_bounds-edge_list-end
-slice_bounds-edge_list-end c =
-    let off : Offsets c.args.bytes.now = offsets _ c.requires in
-    let size : c.length_at.result ≡ length_at c.args.bytes.now (at03 c.args.bytes.now) = c.length_at.ensures.0
-    ∙ ap (λ (s : ℕ). length_at c.args.bytes.now (8 + 3 * s)) c.byte-states.ensures.0 in
-    omega (arith, off, c.byte-states.ensures.0, size)
+slice_bounds-edge_list-end c = omega (arith, offsets _ c.requires, c.byte-states.ensures.0, size_is _ _ _ c.byte-states.ensures.0 c.length_at.ensures.0)
 
 pub slice_bounds-node_list-count : goal.slice_bounds-node_list-count
-slice_bounds-node_list-count c =
-    let off : Offsets c.args.bytes.now = offsets _ c.requires in
-    let size : c.length_at.result ≡ length_at c.args.bytes.now (at03 c.args.bytes.now) = c.length_at.ensures.0
-    ∙ ap (λ (s : ℕ). length_at c.args.bytes.now (8 + 3 * s)) c.byte-states.ensures.0 in
-    omega (arith, off, c.byte-states.ensures.0, size)
+slice_bounds-node_list-count c = omega (arith, offsets _ c.requires, c.byte-states.ensures.0, size_is _ _ _ c.byte-states.ensures.0 c.length_at.ensures.0)
 
 pub slice_bounds-node_list-start : goal.slice_bounds-node_list-start
-slice_bounds-node_list-start c =
-    let off : Offsets c.args.bytes.now = offsets _ c.requires in
-    let size : c.length_at.result ≡ length_at c.args.bytes.now (at03 c.args.bytes.now) = c.length_at.ensures.0
-    ∙ ap (λ (s : ℕ). length_at c.args.bytes.now (8 + 3 * s)) c.byte-states.ensures.0 in
-    omega (arith, off, c.byte-states.ensures.0, size)
+slice_bounds-node_list-start c = omega (arith, offsets _ c.requires, c.byte-states.ensures.0, size_is _ _ _ c.byte-states.ensures.0 c.length_at.ensures.0)
 
 pub check_parts-by_parts-requires : goal.check_parts-by_parts-requires
 check_parts-by_parts-requires c =
-    let off : Offsets c.args.bytes.now = offsets _ c.requires in
-    (simp (length-take, length-drop) (omega (arith, off, c.byte-states.ensures.0)), omega (arith, off, c.byte-atoms.ensures.0))
+    (simp (length-take, length-drop) (omega (arith, offsets _ c.requires, c.byte-states.ensures.0)), omega (arith, offsets _ c.requires, c.byte-atoms.ensures.0))
 
 pub returns-in-Refused : goal.returns-in-Refused
 returns-in-Refused c =
-    let off : Offsets c.args.bytes.now = offsets _ c.requires in
-    let size : c.length_at.result ≡ length_at c.args.bytes.now (at03 c.args.bytes.now) = c.length_at.ensures.0
-    ∙ ap (λ (s : ℕ). length_at c.args.bytes.now (8 + 3 * s)) c.byte-states.ensures.0 in
     read_refused _ _
-    (parts_taken _ off _ _ _ c.byte-states.ensures.0 c.byte-atoms.ensures.0 size)
+    (parts_taken _ (offsets _ c.requires) _ _ _ c.byte-states.ensures.0 c.byte-atoms.ensures.0 (size_is _ _ _ c.byte-states.ensures.0 c.length_at.ensures.0))
     _
     (sym c.check_parts-by_parts.ensures ∙ c.in-Refused.is)
 
 pub returns : goal.returns
 returns c =
-    let off : Offsets c.args.bytes.now = offsets _ c.requires in
-    let size : c.length_at.result ≡ length_at c.args.bytes.now (at03 c.args.bytes.now) = c.length_at.ensures.0
-    ∙ ap (λ (s : ℕ). length_at c.args.bytes.now (8 + 3 * s)) c.byte-states.ensures.0 in
     read_passed _ _
-    (parts_taken _ off _ _ _ c.byte-states.ensures.0 c.byte-atoms.ensures.0 size)
+    (parts_taken _ (offsets _ c.requires) _ _ _ c.byte-states.ensures.0 c.byte-atoms.ensures.0 (size_is _ _ _ c.byte-states.ensures.0 c.length_at.ensures.0))
     _ _
     c.operators_from.ensures
     c.operators_from-2.ensures

@@ -32,9 +32,9 @@ stepped node next w =
 
 pub with_bit-requires : goal.with_bit-requires
 with_bit-requires c =
-    let at-loop = c.loop-i in
-    let old = at-loop.invariant.3.under (at-loop.i - 1) (omega arith) in
-    (omega arith, rw old (c.requires.2.below (at-loop.i - 1) (omega arith)), c.carried-next.ensures.1)
+    let at_loop = c.loop-i in
+    let old = at_loop.invariant.3.under (at_loop.i - 1) (omega arith) in
+    (omega arith, rw old (c.requires.2.below (at_loop.i - 1) (omega arith)), c.carried-next.ensures.1)
 
 pub loop-i-preserved : goal.loop-i-preserved
 unfolding stepped
@@ -43,28 +43,28 @@ loop-i-preserved c =
     ≡ digit
     (carried_to c.args.node c.args.count c.args.seed c.args.scratch.now
     (c.loop-i.i - 1)) = let a = c.args in
-    let at-loop = c.loop-i in
+    let at_loop = c.loop-i in
     pass_digit (now_in (node_is a.node) a.scratch.now) (stay_in (node_is a.node) a.scratch.now) (eqb a.seed 1) a.count
-    at-loop.i at-loop.next c.carried-next.result at-loop.invariant.2
-    (subst (λ (w : ℕ). c.carried-next.result ≡ digit (stepped a.node at-loop.next w))
-    (at-loop.invariant.3.under (at-loop.i - 1) (omega arith)) c.carried-next.ensures.0)
+    at_loop.i at_loop.next c.carried-next.result at_loop.invariant.2
+    (subst (λ (w : ℕ). c.carried-next.result ≡ digit (stepped a.node at_loop.next w))
+    (at_loop.invariant.3.under (at_loop.i - 1) (omega arith)) c.carried-next.ensures.0)
     (omega arith) (omega arith) in
     let a = c.args in
-    let at-loop = c.loop-i in
-    let truth = carried_to a.node a.count a.seed a.scratch.now (at-loop.i - 1) in (
+    let at_loop = c.loop-i in
+    let truth = carried_to a.node a.count a.seed a.scratch.now (at_loop.i - 1) in (
       omega arith,
       c.carried-next.ensures.1,
       turn,
-      stored_down c.with_bit.result at-loop.invariant.3 (omega arith) (omega arith) (omega arith)
+      stored_down c.with_bit.result at_loop.invariant.3 (omega arith) (omega arith) (omega arith)
           (c.with_bit.ensures
-          ∙ ap₂ (λ (w : ℕ) (b : Bool). added w a.n b) (at-loop.invariant.3.under (at-loop.i - 1) (omega arith))
+          ∙ ap₂ (λ (w : ℕ) (b : Bool). added w a.n b) (at_loop.invariant.3.under (at_loop.i - 1) (omega arith))
           (ap (λ (x : ℕ). eqb x 1) turn ∙ eqb_digit truth)),
     )
 
 pub returns : goal.returns
 returns c =
-    let at-loop = c.loop-i in
-    let down : at-loop.i ≡ 0 = omega arith in
+    let at_loop = c.loop-i in
+    let down : at_loop.i ≡ 0 = omega arith in
     let a = c.args in
-    subst (λ (i : ℕ). Stored i a.count (entry a.node a.n a.count a.seed a.scratch.now) a.scratch.now at-loop.scratch)
-    down at-loop.invariant.3
+    subst (λ (i : ℕ). Stored i a.count (entry a.node a.n a.count a.seed a.scratch.now) a.scratch.now at_loop.scratch)
+    down at_loop.invariant.3

@@ -18,46 +18,46 @@ loop-i-init c = (omega arith, stored_none 0 _ c.args.scratch.now)
 
 pub offset_bounds-scratch-after : goal.offset_bounds-scratch-after
 offset_bounds-scratch-after c =
-    let next-below : c.after.result < c.args.k + c.args.m = rw c.after.ensures (position_below c.args.k c.args.m c.requires.2 (suc c.loop-i.i)) in
-    omega (arith, next-below)
+    let next_below : c.after.result < c.args.k + c.args.m = rw c.after.ensures (position_below c.args.k c.args.m c.requires.2 (suc c.loop-i.i)) in
+    omega (arith, next_below)
 
 pub bounds-scratch-after : goal.bounds-scratch-after
 bounds-scratch-after c =
-    let next-below : c.after.result < c.args.k + c.args.m = rw c.after.ensures (position_below c.args.k c.args.m c.requires.2 (suc c.loop-i.i)) in
-    omega (arith, next-below)
+    let next_below : c.after.result < c.args.k + c.args.m = rw c.after.ensures (position_below c.args.k c.args.m c.requires.2 (suc c.loop-i.i)) in
+    omega (arith, next_below)
 
 pub with_bit-requires : goal.with_bit-requires
 with_bit-requires c =
-    let at-loop = c.loop-i in (
+    let at_loop = c.loop-i in (
       omega arith,
-      rw (at-loop.invariant.1.over at-loop.i (omega arith)) (c.requires.1.below at-loop.i (omega arith)),
+      rw (at_loop.invariant.1.over at_loop.i (omega arith)) (c.requires.1.below at_loop.i (omega arith)),
       c.truth.ensures.1,
     )
 
 pub loop-i-preserved : goal.loop-i-preserved
 loop-i-preserved c =
-    let next-below : c.after.result < c.args.k + c.args.m = rw c.after.ensures (position_below c.args.k c.args.m c.requires.2 (suc c.loop-i.i)) in
+    let next_below : c.after.result < c.args.k + c.args.m = rw c.after.ensures (position_below c.args.k c.args.m c.requires.2 (suc c.loop-i.i)) in
     let made : c.truth.result
     ≡ digit
     (following c.args.node.first c.args.k c.args.m c.args.scratch.now
     c.loop-i.i) = let a = c.args in
-    let at-loop = c.loop-i in
+    let at_loop = c.loop-i in
     let next = c.after in
     c.truth.ensures.0
     ∙ ap digit
-    (lower_bit_kept a.n (following a.node.first a.k a.m a.scratch.now) at-loop.invariant.1 next.result
-    (c.requires.1.below next.result next-below)
+    (lower_bit_kept a.n (following a.node.first a.k a.m a.scratch.now) at_loop.invariant.1 next.result
+    (c.requires.1.below next.result next_below)
     a.node.first
     c.requires.3
     ∙ ap (λ (j : ℕ). bit (at a.scratch.now j) a.node.first) next.ensures) in
     let a = c.args in
-    let at-loop = c.loop-i in (
+    let at_loop = c.loop-i in (
       omega arith,
-      stored_up c.with_bit.result at-loop.invariant.1 (omega arith) (omega arith)
+      stored_up c.with_bit.result at_loop.invariant.1 (omega arith) (omega arith)
           (c.with_bit.ensures
-          ∙ ap₂ (λ (w : ℕ) (b : Bool). added w a.n b) (at-loop.invariant.1.over at-loop.i (omega arith))
+          ∙ ap₂ (λ (w : ℕ) (b : Bool). added w a.n b) (at_loop.invariant.1.over at_loop.i (omega arith))
           (ap (λ (x : ℕ). eqb x 1) made
-          ∙ eqb_digit (following a.node.first a.k a.m a.scratch.now at-loop.i))),
+          ∙ eqb_digit (following a.node.first a.k a.m a.scratch.now at_loop.i))),
     )
 
 pub shape_of-scratch : goal.shape_of-scratch

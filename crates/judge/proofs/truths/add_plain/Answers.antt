@@ -18,23 +18,23 @@ label-label-requires c =
 
 pub plain_added-requires : goal.plain_added-requires
 plain_added-requires c =
-    let at-loop = c.loop-i in (
+    let at_loop = c.loop-i in (
       c.requires.0,
       c.requires.1,
       c.requires.2.narrow,
-      rw (at-loop.invariant.1.over at-loop.i (omega arith)) (c.requires.2.below at-loop.i (omega arith)),
+      rw (at_loop.invariant.1.over at_loop.i (omega arith)) (c.requires.2.below at_loop.i (omega arith)),
     )
 
 pub loop-i-preserved : goal.loop-i-preserved
 loop-i-preserved c =
-    let at-loop = c.loop-i in
+    let at_loop = c.loop-i in
     let a = c.args in (
       omega arith,
-      stored_up c.plain_added.result at-loop.invariant.1 (omega arith) (omega arith)
+      stored_up c.plain_added.result at_loop.invariant.1 (omega arith) (omega arith)
           (c.plain_added.ensures
           ∙ ap₂ (entry a.node a.n)
           (c.label-label.ensures ∙ ap (label_of a.states.now) c.entry.ensures)
-          (at-loop.invariant.1.over at-loop.i (omega arith))),
+          (at_loop.invariant.1.over at_loop.i (omega arith))),
     )
 
 pub shape_of-scratch : goal.shape_of-scratch

@@ -23,22 +23,22 @@ loop-i-init c =
 pub loop-i-preserved : goal.loop-i-preserved
 loop-i-preserved c =
     let a = c.args in
-    let at-loop = c.loop-i in (
+    let at_loop = c.loop-i in (
       omega arith,
       omega arith,
       c.carried-next.ensures.1,
       pass_digit (now_in (node_is a.node) a.scratch.now) (stay_in (node_is a.node) a.scratch.now) (greatest a.node.operator) (a.k + a.m)
-          at-loop.i at-loop.next _ at-loop.invariant.3 c.carried-next.ensures.0 (omega arith) (omega arith),
+          at_loop.i at_loop.next _ at_loop.invariant.3 c.carried-next.ensures.0 (omega arith) (omega arith),
     )
 
 pub returns : goal.returns
 unfolding seed
 returns c =
     let a = c.args in
-    let at-k : c.loop-i.i ≡ a.k = omega arith in
+    let at_k : c.loop-i.i ≡ a.k = omega arith in
     let all : a.k + a.m - a.k ≡ a.m = omega arith in
     let carried = pass (now_in (node_is a.node) a.scratch.now) (stay_in (node_is a.node) a.scratch.now) (greatest a.node.operator) in (
       c.loop-i.invariant.3
-          ∙ (ap (λ (i : ℕ). digit (carried i (a.k + a.m - i))) at-k ∙ ap (λ (d : ℕ). digit (carried a.k d)) all),
+          ∙ (ap (λ (i : ℕ). digit (carried i (a.k + a.m - i))) at_k ∙ ap (λ (d : ℕ). digit (carried a.k d)) all),
       c.loop-i.invariant.2,
     )

@@ -9,11 +9,11 @@ use lib.ListN.{get_or}
 use Rattle.reading.specs.Parts.{from_of, to_of}
 use Rattle.reading.proofs.parts.end.Goals as goal
 
-at-end : (edges : List ℕ) (e which : ℕ) → which ≤ 1 → get_or edges (2 * e + which) 0 ≡ cond (eqb which 0) (from_of edges e) (to_of edges e)
+at_end : (edges : List ℕ) (e which : ℕ) → which ≤ 1 → get_or edges (2 * e + which) 0 ≡ cond (eqb which 0) (from_of edges e) (to_of edges e)
 unfolding from_of to_of
-at-end edges e zero h = ap (λ (i : ℕ). get_or edges i 0) (omega arith)
-at-end edges e (suc zero) h = refl
-at-end edges e (suc (suc which)) h = absurd (omega arith)
+at_end edges e zero h = ap (λ (i : ℕ). get_or edges i 0) (omega arith)
+at_end edges e (suc zero) h = refl
+at_end edges e (suc (suc which)) h = absurd (omega arith)
 
 pub returns : goal.returns
-returns c = c.byte.ensures.0 ∙ at-end _ _ _ c.requires.1
+returns c = c.byte.ensures.0 ∙ at_end _ _ _ c.requires.1

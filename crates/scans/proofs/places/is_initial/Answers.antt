@@ -11,11 +11,11 @@ use Rattle.workspace.proofs.Roots.{rooting_guesses, rooting_state, root_none, ro
 use Rattle.scans.proofs.places.is_initial.Goals as goal
 
 -- the machine's test tells the bit
-set-bit : (n j : ℕ) → bit_and (n / 2 ^ j) 1 ≡ 1 → bit n j ≡ true
-set-bit n j e = sym (eqb_digit (bit n j)) ∙ ap (λ (d : ℕ). eqb d 1) (sym (test_bit n j) ∙ e)
+set_bit : (n j : ℕ) → bit_and (n / 2 ^ j) 1 ≡ 1 → bit n j ≡ true
+set_bit n j e = sym (eqb_digit (bit n j)) ∙ ap (λ (d : ℕ). eqb d 1) (sym (test_bit n j) ∙ e)
 
-clear-bit : (n j : ℕ) → (bit_and (n / 2 ^ j) 1 ≡ 1 → ⊥) → bit n j ≡ false
-clear-bit n j h = go (bit n j) refl
+clear_bit : (n j : ℕ) → (bit_and (n / 2 ^ j) 1 ≡ 1 → ⊥) → bit n j ≡ false
+clear_bit n j h = go (bit n j) refl
   where
     go : (b : Bool) → bit n j ≡ b → bit n j ≡ false
     go true e = absurd (h (test_bit n j ∙ ap digit e))
@@ -31,7 +31,7 @@ pub overflow_shr-lane : goal.overflow_shr-lane
 overflow_shr-lane c = omega (arith, c.if-sizes-b.false, rooting_guesses c.requires.0)
 
 pub returns-then-lane-b-eq-SET : goal.returns-then-lane-b-eq-SET
-returns-then-lane-b-eq-SET c of h = sym (root_true of _ _ h c.if-sizes-b.false (set-bit _ _ c.if-lane-b-eq-SET.true))
+returns-then-lane-b-eq-SET c of h = sym (root_true of _ _ h c.if-sizes-b.false (set_bit _ _ c.if-lane-b-eq-SET.true))
 
 pub initial-requires : goal.initial-requires
 initial-requires c =
@@ -39,4 +39,4 @@ initial-requires c =
 
 pub returns : goal.returns
 returns c of h =
-    c.initial.ensures ∙ sym (root_false of _ _ h c.if-sizes-b.false (clear-bit _ _ c.if-lane-b-eq-SET.false))
+    c.initial.ensures ∙ sym (root_false of _ _ h c.if-sizes-b.false (clear_bit _ _ c.if-lane-b-eq-SET.false))

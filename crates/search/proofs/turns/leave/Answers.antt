@@ -15,7 +15,7 @@ paint-requires c =
 
 pub returns-then-not-is_marked : goal.returns-then-not-is_marked
 returns-then-not-is_marked c =
-    let waits : (c.args.code) % 8 < (c.args.sizes.top) = subst (λ (w : ℕ). w < c.args.sizes.top) c.waiting.ensures
+    let waits : c.args.code % 8 < c.args.sizes.top = subst (λ (w : ℕ). w < c.args.sizes.top) c.waiting.ensures
     (leb-false _ _ (sym c.is_marked.ensures ∙ not-true _ c.if-not-is_marked.true-raw)) in
     let ws = c.args.workspace.now in record {
       kept = subst (λ (l : List ℕ). Kept c.args.sizes.places ws l) (sym c.paint.ensures) (paint_kept c.requires.0 c.requires.3 1);
@@ -27,11 +27,11 @@ returns-then-not-is_marked c =
 
 pub inner_search-requires : goal.inner_search-requires
 inner_search-requires c =
-    let waits-no-more : (c.args.sizes.top) ≤ c.args.code % 8 = subst (λ (w : ℕ). c.args.sizes.top ≤ w) c.waiting.ensures
+    let waits_no_more : c.args.sizes.top ≤ c.args.code % 8 = subst (λ (w : ℕ). c.args.sizes.top ≤ w) c.waiting.ensures
     (leb-true _ _ (sym c.is_marked.ensures ∙ not-false _ c.if-not-is_marked.false-raw)) in
     record {
       setting = c.requires;
-      marked = waits-no-more;
+      marked = waits_no_more;
     }
 
 pub paint-requires-in-Back : goal.paint-requires-in-Back
