@@ -5,9 +5,9 @@ use mathlib.Core.List.{List, ◌++◌}
 use mathlib.Core.Logic.{◌⊎◌, inl, inr}
 use mathlib.Core.Path.{◌≡◌, sym, ap, ap₂, ◌∙◌}
 use lib.ListN.{length, drop}
+use Rattle.std.specs.Prelude.{Ok, Err}
 use Rattle.reading.specs.Parts.{Parts}
-use Rattle.reading.specs.Refusals.{parts_of, refusal}
-use Rattle.reading.specs.declared.Check.{Check}
+use Rattle.reading.specs.Refusals.{Check, parts_of, refusal}
 use Rattle.text.specs.Text.{Printed}
 use Rattle.bench.specs.Told.{ShowsRun, Says, Told}
 
@@ -19,11 +19,11 @@ same_print {out = out} a b e =
 
 -- the same text, or two runs
 says_alike : (c : Check) (p : Parts) (text text' : List ℕ) → Says c p text → Says c p text' → (text ≡ text') ⊎ (ShowsRun p text × ShowsRun p text')
-says_alike (Check.Refused r) p text text' s s' = inl (s ∙ sym s')
-says_alike Check.Passed p text text' (inl (s, holds)) (inl (s', holds')) = inl (s ∙ sym s')
-says_alike Check.Passed p text text' (inl (s, holds)) (inr run) = absurd (holds run.track run.k run.m run.violates)
-says_alike Check.Passed p text text' (inr run) (inl (s, holds)) = absurd (holds run.track run.k run.m run.violates)
-says_alike Check.Passed p text text' (inr run) (inr run') = inr (run, run')
+says_alike (Err r) p text text' s s' = inl (s ∙ sym s')
+says_alike (Ok _) p text text' (inl (s, holds)) (inl (s', holds')) = inl (s ∙ sym s')
+says_alike (Ok _) p text text' (inl (s, holds)) (inr run) = absurd (holds run.track run.k run.m run.violates)
+says_alike (Ok _) p text text' (inr run) (inl (s, holds)) = absurd (holds run.track run.k run.m run.violates)
+says_alike (Ok _) p text text' (inr run) (inr run') = inr (run, run')
 
 pub told_alike : (bytes out out₁ out₂ : List ℕ) (filled₁ filled₂ : ℕ) (a : Told bytes out out₁ filled₁) (b : Told bytes out out₂ filled₂)
     → ((out₁ ≡ out₂) × (filled₁ ≡ filled₂)) ⊎ (ShowsRun (parts_of bytes) a.text × ShowsRun (parts_of bytes) b.text)

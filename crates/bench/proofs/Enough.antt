@@ -10,16 +10,16 @@ use lib.Dec.{eqb}
 use lib.ListN.{length, get_or, take}
 use lib.Seq.{take_all, get_or-take, length-take-le}
 use borrow.Author.Tests.{lt-ltb, le-ltb, not-false}
-use Rattle.reading.specs.Refusals.{◌then◌, refuse_if, length_at, at02, at03, at04, in_steps, parts_of, field_refusal, out_of_range, last_refusal, fields_refusal, parts_refusal, refusal}
+use Rattle.std.specs.Prelude.{Ok, Err}
+use Rattle.reading.specs.Refusals.{Check, ◌then◌, refuse_if, length_at, at02, at03, at04, in_steps, parts_of, field_refusal, out_of_range, last_refusal, fields_refusal, parts_refusal, refusal}
 use Rattle.reading.specs.declared.CaseRefusal.TheVariants.{Tag, Length, Range}
-use Rattle.reading.specs.declared.Check.{Check}
 use Rattle.reading.proofs.Fields.{not_refused, in_steps_lem, in_range, InRange, InSteps, Fields, field_passed, fields_passed}
 use Rattle.reading.proofs.Known.{passed_fields}
 use Rattle.bench.specs.Told.{Says, Told}
 
-then_same : (first : Check) {y z : Check} → (first ≡ Check.Passed → y ≡ z) → (first then y) ≡ (first then z)
-then_same (Check.Refused r) later = refl
-then_same Check.Passed later = later refl
+then_same : (first : Check) {y z : Check} → (first ≡ Ok tt → y ≡ z) → (first then y) ≡ (first then z)
+then_same (Err r) later = refl
+then_same (Ok _) later = later refl
 
 module _ (b w : List ℕ) (b_long : 1327 ≤ length b) (w_long : 1327 ≤ length w) (same : (i : ℕ) → i < 1327 → get_or b i 0 ≡ get_or w i 0) where
   length-same : (at : ℕ) → at + 3 ≤ 1327 → length_at b at ≡ length_at w at
@@ -66,7 +66,7 @@ module _ (b w : List ℕ) (b_long : 1327 ≤ length b) (w_long : 1327 ≤ length
       let size : InSteps 2 2 1024 (length_at w (at03 w)) = (field_passed w (at03 w) 3 2 2 1024 third).size in
       last_same (at04 w) (at04_low size range)))
 
-long_refused : (bytes : List ℕ) → 1327 ≤ length bytes → fields_refusal bytes ≡ Check.Passed → ⊥
+long_refused : (bytes : List ℕ) → 1327 ≤ length bytes → fields_refusal bytes ≡ Ok tt → ⊥
 unfolding at04
 long_refused bytes long e =
     let f : Fields bytes = fields_passed bytes e in
@@ -98,5 +98,5 @@ told_of_all {input} {out} {out'} {filled} told = go (dec_le 1327 (length input))
         }
       where
         moved : (check : Check) → refusal input ≡ check → Says check (parts_of (take 1327 input)) told.text → Says check (parts_of input) told.text
-        moved (Check.Refused r) e says = says
-        moved Check.Passed e says = absurd (long_refused input long (passed_fields input e))
+        moved (Err r) e says = says
+        moved (Ok _) e says = absurd (long_refused input long (passed_fields input e))

@@ -2,9 +2,9 @@
 #![tactic(auto)]
 
 ghost use Rattle.std.specs.Prelude.{◌≡◌, length};
-ghost use Rattle.bench.specs.Told.{verdict_of, Told, Within, Takes};
+ghost use Rattle.bench.specs.Told.{Told, Within, Takes};
 
-use search::SearchAnswer;
+use search::Lasso;
 use std::io;
 use std::io::{Read, Write};
 
@@ -15,15 +15,6 @@ const ENOUGH: usize = 1327;
 const WORKSPACE: usize = 30720;
 
 const TRACK: usize = 10240;
-
-// The paper's number and place of an answer, with k and m, which are 0 unless it is violated.
-#[derive(Clone, Copy)]
-struct Verdict {
-    number: usize,
-    place: usize,
-    stem: usize,
-    repeat: usize,
-}
 
 // Reads, answers and prints. A read that failed must not pass for a short case: it ends the program with an error, and nothing goes to
 // standard output.
@@ -54,50 +45,23 @@ fn read_case<R: Read>(from: &mut R, room: &mut [u8]) -> io::Result<usize>
 }
 
 // The verdict on a case as text, at the start of out, and how many bytes it is long.
+#[tactic(auto, using(crate::proofs::Says::run_fits, crate::proofs::Says::run_shown, crate::proofs::Says::told))]
 fn answer(
     bytes: &[u8],
     workspace: &mut [u16],
     track: &mut [u16],
     out: &mut [u8; text::LONGEST],
 ) -> usize
-    requires { (length workspace.old ≡ 30720) × (length track.old ≡ 10240) × (length out.old ≡ 30739) }
+    requires workspace_room { length workspace.old ≡ WORKSPACE }
+    requires track_room { length track.old ≡ TRACK }
     ensures { Told bytes.now out.old out.new result }
 {
-    let verdict = verdict_of(search::search(bytes, workspace, track));
-    let number = verdict.number;
-    let place = verdict.place;
-    let stem = verdict.stem;
-    let repeat = verdict.repeat;
-    text::write(number, place, stem, repeat, track, out)
-}
-
-// The number of the table, and what is given with it.
-fn verdict_of(answer: SearchAnswer) -> Verdict
-    ensures { result ≡ verdict_of answer }
-{
-    match answer {
-        SearchAnswer::Refused(refusal) => {
-            without_run(reading::number(refusal), reading::place(refusal))
+    match search::search(bytes, workspace, track) {
+        Ok(None) => text::holds(out),
+        Ok(Some(Lasso { stem, repeat })) => {
+            let (stem, rest) = track.split_at(stem);
+            text::violated(stem, &rest[..repeat], out)
         }
-        SearchAnswer::Workspace(needed) => without_run(40, needed),
-        SearchAnswer::Track(needed) => without_run(41, needed),
-        SearchAnswer::Holds => without_run(0, 0),
-        SearchAnswer::Violated { stem, repeat } => Verdict {
-            number: 1,
-            place: 0,
-            stem,
-            repeat,
-        },
-    }
-}
-
-fn without_run(number: usize, place: usize) -> Verdict
-    ensures { result ≡ record { number = number; place = place; stem = 0; repeat = 0 } }
-{
-    Verdict {
-        number,
-        place,
-        stem: 0,
-        repeat: 0,
+        Err(refusal) => text::refused(refusal.number(), refusal.place(), out),
     }
 }

@@ -2,16 +2,13 @@
 -- temporal, is filled for the first n + 1. Assumes nothing.
 use Prim.Native.Nat.{ℕ, suc, ◌≤◌, ◌<◌}
 use native.Mathlib.Omega.{arith}
-use mathlib.Core.Path.{◌≡◌, sym, ap, ◌∙◌, subst}
+use mathlib.Core.Path.{◌≡◌, sym, ◌∙◌, subst}
 use mathlib.Core.List.{List}
 use lib.ListN.{length}
-use Rattle.bits.specs.Bits.{bit}
 use Rattle.meaning.specs.Table.{Table, Node}
 use Rattle.reading.specs.Parts.{node_of}
 use Rattle.product.specs.Product.{truth}
 use Rattle.product.proofs.Lanes.{Rows, Lanes}
-use Rattle.product.proofs.Truth.{truth_temporal}
-use Rattle.filled.proofs.Lane.{lane_same}
 use Rattle.filled.proofs.Filling.{Filling, Blank, Counted, Filled, RowAdded}
 use Rattle.filled.proofs.Nodes.{counted_none, counted_plain}
 use Rattle.filled.proofs.Rows.{rows_none, rows_more}
@@ -46,34 +43,21 @@ module _ {table : Table} {node : ℕ → Node} {n count : ℕ} {rows rows' lanes
         lanes_size = old.lanes_size;
       }
 
-  -- a temporal node's row is its pattern
-  row_temporal : 6 ≤ (node n).operator → RowAdded n count (λ s b. bit b T) rows rows'
-      → RowAdded n count (truth table node n) rows rows'
-  row_temporal high row =
-      record {
-        size_kept = row.size_kept;
-        lower = row.lower;
-        words = row.words;
-        added = λ s l.
-            lane_same (row.added s l)
-            (λ b k. ap (bit b) old.counts.temporals_are ∙ sym (truth_temporal table node s b n high));
-      }
-
-  pub filled_temporal : {lanes' : List ℕ} {T' E' : ℕ} → 6 ≤ (node n).operator → RowAdded n count (λ s b. bit b T) rows rows'
+  pub filled_temporal : {lanes' : List ℕ} {T' E' : ℕ} → RowAdded n count (truth table node n) rows rows'
       → length lanes' ≡ 1024
       → (Rows table node (suc n) rows' → Lanes table node n lanes → Lanes table node (suc n) lanes')
       → Counted node (suc n) T' E' → Filled table node (suc n) rows' lanes' T' E'
-  filled_temporal high row size lanes_with counts =
+  filled_temporal added size lanes_with counts =
       record {
-        all_rows = rows_with (row_temporal high row);
-        all_lanes = lanes_with (rows_with (row_temporal high row)) old.all_lanes;
+        all_rows = rows_with added;
+        all_lanes = lanes_with (rows_with added) old.all_lanes;
         counts = counts;
-        rows_size = row.size_kept ∙ old.rows_size;
+        rows_size = added.size_kept ∙ old.rows_size;
         lanes_size = size;
       }
 
 -- the nodes' list and the parts' are one
-module _ {states nodes : List ℕ} {count n : ℕ} (f : Filling states nodes count n)
+module _ {states nodes : List ℕ} {n : ℕ} (f : Filling states nodes n)
     {table : Table} {m : ℕ} {rows lanes : List ℕ} {T E : ℕ} where
   pub at_nodes : Filled table (node_of f.parts.node_list) m rows lanes T E → Filled table (node_of nodes) m rows lanes T E
   at_nodes h = subst (λ (l : List ℕ). Filled table (node_of l) m rows lanes T E) (sym f.nodes_are) h

@@ -17,21 +17,9 @@ use Rattle.filled.proofs.Filling.{Blank, Block, BlockAdded, Partly}
 use Rattle.filled.proofs.Nodes.{list_same, promises_fewer}
 use Rattle.filled.proofs.Rows.{blank_words}
 
--- ---- blocks and lanes
+-- ---- blocks make lanes
 
 module _ (table : Table) (node : ℕ → Node) where
-  pub lanes_block : (n : ℕ) (lanes : List ℕ) → Lanes table node n lanes
-      → (s : ℕ) → s < table.states → Block table node n s lanes
-  lanes_block n lanes h s l =
-      record {
-        need = λ t b k m. h.need t s b k l m;
-        need_no_more = λ t k m. h.need_no_more t s k m l;
-        carry = λ t b k m. h.carry t s b k l m;
-        met = λ e b k m. h.met e s b k l m;
-        fail = λ b m. h.fail s b l m;
-        no_fail = λ b m. h.no_fail s b l m;
-      }
-
   pub blocks_lanes : (n : ℕ) (lanes : List ℕ) → Words16 lanes
       → ((s : ℕ) → s < table.states → Block table node n s lanes) → Lanes table node n lanes
   blocks_lanes n lanes words h =
@@ -92,10 +80,6 @@ module _ (table : Table) (node : ℕ → Node) where
 -- ---- the lanes, state by state
 
 module _ (table : Table) (node : ℕ → Node) (n : ℕ) where
-  pub partly_none : (lanes : List ℕ) → Lanes table node n lanes → Partly table node n 0 lanes
-  partly_none lanes h =
-      record { words = h.words; done = λ x l k. absurd (omega arith); left = λ x l k. lanes_block table node n lanes h x k }
-
   pub partly_all : (lanes : List ℕ) → Partly table node n table.states lanes → Lanes table node (suc n) lanes
   partly_all lanes h = blocks_lanes table node (suc n) lanes h.words (λ s l. h.done s l l)
 

@@ -33,10 +33,6 @@ module _ {edges : List ℕ} {count : ℕ} (h : Leaving edges count) where
       go (inl q) before = rw q (omega arith)
       go (inr q) before = omega (arith, before (omega arith) (omega arith), h.rises d k)
 
-  pub started_none : (starts : List ℕ) → Started edges 0 0 starts
-  started_none starts =
-      record { within = omega arith; passed = λ i l. absurd (omega arith); parted = λ x l. absurd (omega arith) }
-
   module _ (s e r : ℕ) (starts : List ℕ) (skipped : Skipped edges s e r) (old : Started edges s e starts) where
     parted_here : Parted edges s r
     parted_here =

@@ -1,5 +1,5 @@
 -- What the code that fills the arrays asks and gives. Contracts cite these definitions, and nobody has to believe them.
-use Prim.Native.Nat.{ℕ, suc, ◌+◌, ◌*◌, ◌≤◌, ◌<◌}
+use Prim.Native.Nat.{ℕ, suc, ◌+◌, ◌*◌, ◌/◌, ◌≤◌, ◌<◌}
 use mathlib.Core.Path.{◌≡◌}
 use mathlib.Core.Bool.{Bool, true, false}
 use mathlib.Core.Logic.{◌⊎◌}
@@ -8,19 +8,18 @@ use lib.ListN.{length, get_or}
 use Rattle.bits.specs.Bits.{bit}
 use Rattle.meaning.specs.Table.{Table, Node}
 use Rattle.meaning.specs.Laws.{operands}
-use Rattle.reading.specs.Parts.{Parts, label_of, node_of, node_count, edge_count, from_of}
+use Rattle.reading.specs.Parts.{Parts, label_of, node_count, edge_count, from_of}
 use Rattle.reading.proofs.Admitted.{Admitted}
 use Rattle.product.specs.Product.{temporal, promised, meets, carried}
 use Rattle.product.proofs.Lanes.{Words16, Rows, Lanes, needs, fails}
 use Rattle.filled.proofs.Lane.{Lane}
 
--- the states, the first n nodes and the number of states are those of an admitted case
-pub record Filling (states nodes : List ℕ) (count n : ℕ) : Type 0 where
+-- the states and the first n nodes are those of an admitted case
+pub record Filling (states nodes : List ℕ) (n : ℕ) : Type 0 where
   pub parts : Parts
   pub admitted : Admitted parts
   pub states_are : states ≡ parts.state_list
   pub nodes_are : nodes ≡ parts.node_list
-  pub count_is : count ≡ parts.states
   pub within : n ≤ node_count nodes
 
 -- so many entries, all 0
@@ -41,18 +40,17 @@ pub record Filled (table : Table) (node : ℕ → Node) (n : ℕ) (rows lanes : 
   pub rows_size : length rows ≡ 2048
   pub lanes_size : length lanes ≡ 1024
 
--- node n can be read: it stands in the list, its operator is known, its operands are lower nodes, and an atom's number is below 16
-pub record Ready (nodes : List ℕ) (n : ℕ) : Type 0 where
+-- this node can be read as node n: its operator is known, its operands are lower nodes, and an atom's number is below 16
+pub record Ready (node : Node) (n : ℕ) : Type 0 where
   pub low : n < 32
-  pub bytes : 3 * n + 2 < length nodes
-  pub known : (node_of nodes n).operator < 12
-  pub first_lower : 1 ≤ operands (node_of nodes n).operator → (node_of nodes n).first < n
-  pub second_lower : 2 ≤ operands (node_of nodes n).operator → (node_of nodes n).second < n
-  pub atom_low : (node_of nodes n).operator ≡ 1 → (node_of nodes n).first < 16
+  pub known : node.operator < 12
+  pub first_lower : 1 ≤ operands node.operator → node.first < n
+  pub second_lower : 2 ≤ operands node.operator → node.second < n
+  pub atom_low : node.operator ≡ 1 → node.first < 16
 
--- the table has these states: so many, with these labels
-pub record Stated (table : Table) (states : List ℕ) (count : ℕ) : Type 0 where
-  pub count_is : table.states ≡ count
+-- the table has these states, with these labels
+pub record Stated (table : Table) (states : List ℕ) : Type 0 where
+  pub count_is : table.states ≡ length states / 3
   pub labels_are : (s : ℕ) → table.label s ≡ label_of states s
 
 -- `rows'` is `rows` with row n added, the lane of each state s below `count` being f s; later entries are any words
@@ -63,12 +61,11 @@ pub record RowAdded (n count : ℕ) (f : ℕ → ℕ → Bool) (rows rows' : Lis
   pub added : (s : ℕ) → s < count → Lane (f s) (get_or rows' (n * 64 + s) 0)
 
 module _ (table : Table) (node : ℕ → Node) (n s : ℕ) where
-  -- the four lanes of temporal node n in state s; X has no promise
+  -- the four lanes of temporal node n in state s
   pub record NodeLanes (need carry met fail : ℕ) : Type 0 where
     pub need_is : Lane (needs table node n s) need
     pub carry_is : Lane (carried table node n s) carry
-    pub met_small : met < 65536
-    pub met_is : 7 ≤ (node n).operator → Lane (meets table node n s) met
+    pub met_is : Lane (meets table node n s) met
     pub fail_is : Lane (fails table node n s) fail
 
   -- `Lanes` of one state

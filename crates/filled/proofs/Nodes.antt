@@ -1,6 +1,6 @@
 -- The lists of temporal nodes and of promises grow by node n or stay; promises are no more than temporal nodes; and what an
 -- admitted case gives of each node. Assumes nothing.
-use Prim.Native.Nat.{ℕ, zero, suc, ◌+◌, ◌*◌, ◌≤◌, ◌<◌}
+use Prim.Native.Nat.{ℕ, zero, suc, ◌+◌, ◌*◌, ◌/◌, ◌≤◌, ◌<◌}
 use native.Mathlib.Omega.{arith}
 use native.Mathlib.Nat.{eq-or-lt_of_le}
 use mathlib.Core.Path.{◌≡◌, refl, sym, ap, ◌∙◌, subst}
@@ -62,9 +62,6 @@ module _ (node : ℕ → Node) where
           go true e = let h : 7 ≤ o = leb-true 7 o e in rw (le-leb 6 o (omega arith)) (omega arith)
           go false e = omega arith
 
-  pub promises_few : (n T E : ℕ) → Counted node n T E → T < 4 → E < 4
-  promises_few n T E c few = omega (arith, promises_fewer n, c.temporals_are, c.promises_are)
-
   pub counted_plain : (n T E : ℕ) → (node n).operator < 6 → Counted node n T E → Counted node (suc n) T E
   counted_plain n T E h c =
       record {
@@ -92,36 +89,29 @@ module _ (node : ℕ → Node) where
 
 -- ---- what an admitted case gives
 
-module _ {states nodes : List ℕ} {count' n : ℕ} (f : Filling states nodes count' n) where
-  abbrev pub filling_below : (x : ℕ) → x ≤ n → Filling states nodes count' x
+module _ {states nodes : List ℕ} {n : ℕ} (f : Filling states nodes n) where
+  abbrev pub filling_below : (x : ℕ) → x ≤ n → Filling states nodes x
   filling_below x h =
-      record {
-        parts = f.parts;
-        admitted = f.admitted;
-        states_are = f.states_are;
-        nodes_are = f.nodes_are;
-        count_is = f.count_is;
-        within = omega arith;
-      }
+      record { parts = f.parts; admitted = f.admitted; states_are = f.states_are; nodes_are = f.nodes_are; within = omega arith }
 
-  pub few_states : count' ≤ 64
-  few_states = omega (arith, f.admitted.few_states)
+  pub state_bytes : length states ≡ 3 * f.parts.states
+  state_bytes = rw f.states_are f.admitted.state_bytes
 
-  pub state_bytes : length states ≡ 3 * count'
-  state_bytes = rw (f.states_are, f.count_is) f.admitted.state_bytes
+  pub few_states : length states / 3 ≤ 64
+  few_states = omega (arith, state_bytes, f.admitted.few_states)
 
-  pub stated : Stated (table_of f.parts) states count'
+  pub stated : Stated (table_of f.parts) states
   stated =
       record {
-        count_is = sym f.count_is;
+        count_is = omega (arith, state_bytes);
         labels_are = λ s. ap (λ (l : List ℕ). label_of l s) (sym f.states_are);
       }
 
   node_count_lem : n ≤ node_count f.parts.node_list
   node_count_lem = subst (λ (l : List ℕ). n ≤ node_count l) f.nodes_are f.within
 
-  pub ready : (x : ℕ) → x < n → Ready nodes x
-  ready x h = subst (λ (l : List ℕ). Ready l x) (sym f.nodes_are) of_parts
+  pub ready : (x : ℕ) → x < n → Ready (node_of nodes x) x
+  ready x h = subst (λ (l : List ℕ). Ready (node_of l x) x) (sym f.nodes_are) of_parts
     where
       a : Admitted f.parts
       a = f.admitted
@@ -129,11 +119,10 @@ module _ {states nodes : List ℕ} {count' n : ℕ} (f : Filling states nodes co
       here : x < node_count f.parts.node_list
       here = omega (arith, node_count_lem)
 
-      of_parts : Ready f.parts.node_list x
+      of_parts : Ready (node_of f.parts.node_list x) x
       of_parts =
           record {
             low = omega (arith, here, a.few_nodes);
-            bytes = omega (arith, here, a.node_bytes);
             known = a.ordered.known x here;
             first_lower = a.ordered.first_lower x here;
             second_lower = a.ordered.second_lower x here;

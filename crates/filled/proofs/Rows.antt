@@ -3,7 +3,7 @@
 use Prim.Native.Nat.{ℕ, suc, ◌+◌, ◌*◌, ◌≤◌, ◌<◌}
 use native.Mathlib.Omega.{arith}
 use native.Mathlib.Decide.{ℕ_discrete, dec_lt}
-use mathlib.Core.Path.{◌≡◌, refl, ◌∙◌}
+use mathlib.Core.Path.{◌≡◌, ◌∙◌}
 use mathlib.Core.Logic.{◌⊎◌, inl, inr}
 use mathlib.Core.Bool.{Bool}
 use mathlib.Core.List.{List}
@@ -47,9 +47,6 @@ blank_words blank i = rw (blank.zero_at i) (omega arith)
 -- ---- a row
 
 module _ (n : ℕ) (f : ℕ → ℕ → Bool) (rows : List ℕ) where
-  pub row_none : RowAdded n 0 f rows rows
-  row_none = record { size_kept = refl; lower = λ i l. refl; words = λ w. w; added = λ s l. absurd (omega arith) }
-
   pub row_more : (s lane : ℕ) (rows' : List ℕ) → RowAdded n s f rows rows' → n * 64 + s < length rows' → Lane (f s) lane
       → RowAdded n (s + 1) f rows (set rows' (n * 64 + s) lane)
   row_more s lane rows' r l h =

@@ -22,13 +22,13 @@ use Rattle.filled.proofs.Rows.{words_set}
 
 -- ---- the four stores
 
--- state s's words for temporal node number T and promise number E, stored
+-- state s's failing joined, and its words for temporal node number T and promise number E stored
 abbrev pub stores : (T E s need carry met fail : ℕ) → List ℕ → List ℕ
 stores T E s need carry met fail lanes =
     set
-    (set (set (set lanes (s * 16 + T) need) (s * 16 + (4 + T)) carry) (s * 16 + (8 + E)) met)
-    (s * 16 + 12)
-    (bit_or (get_or lanes (s * 16 + 12) 0) fail)
+    (set (set (set lanes (s * 16 + 12) (bit_or (get_or lanes (s * 16 + 12) 0) fail)) (s * 16 + T) need) (s * 16 + (4 + T)) carry)
+    (s * 16 + (8 + E))
+    met
 
 -- what they leave
 record Stored (T E s need carry met fail : ℕ) (lanes lanes' : List ℕ) : Type 0 where
@@ -40,17 +40,17 @@ record Stored (T E s need carry met fail : ℕ) (lanes lanes' : List ℕ) : Type
       → get_or lanes' i 0 ≡ get_or lanes i 0
 
 module _ (T E s need carry met fail : ℕ) (lanes : List ℕ) where
+  abbrev joined : ℕ
+  joined = bit_or (get_or lanes (s * 16 + 12) 0) fail
+
   abbrev one : List ℕ
-  one = set lanes (s * 16 + T) need
+  one = set lanes (s * 16 + 12) joined
 
   abbrev two : List ℕ
-  two = set one (s * 16 + (4 + T)) carry
+  two = set one (s * 16 + T) need
 
   abbrev three : List ℕ
-  three = set two (s * 16 + (8 + E)) met
-
-  abbrev last : ℕ
-  last = bit_or (get_or lanes (s * 16 + 12) 0) fail
+  three = set two (s * 16 + (4 + T)) carry
 
   at_group : (a k : ℕ) (l : List ℕ) → get_or l (s * 16 + a + k) 0 ≡ get_or l (s * 16 + (a + k)) 0
   at_group a k l = ap (λ (i : ℕ). get_or l i 0) (omega arith)
@@ -60,34 +60,35 @@ module _ (T E s need carry met fail : ℕ) (lanes : List ℕ) where
     stored =
         record {
           need_there =
-              get_or-set_other three (s * 16 + 12) (s * 16 + T) last 0 (λ e. omega arith)
-              ∙ (get_or-set_other two (s * 16 + (8 + E)) (s * 16 + T) met 0 (λ e. omega arith)
-              ∙ (get_or-set_other one (s * 16 + (4 + T)) (s * 16 + T) carry 0 (λ e. omega arith)
-              ∙ get_or-set_same lanes (s * 16 + T) need 0 (omega arith)));
+              get_or-set_other three (s * 16 + (8 + E)) (s * 16 + T) met 0 (λ e. omega arith)
+              ∙ (get_or-set_other two (s * 16 + (4 + T)) (s * 16 + T) carry 0 (λ e. omega arith)
+              ∙ get_or-set_same one (s * 16 + T) need 0 (simp length-set (omega arith)));
           carry_there =
-              at_group 4 T (set three (s * 16 + 12) last)
-              ∙ (get_or-set_other three (s * 16 + 12) (s * 16 + (4 + T)) last 0 (λ e. omega arith)
-              ∙ (get_or-set_other two (s * 16 + (8 + E)) (s * 16 + (4 + T)) met 0 (λ e. omega arith)
-              ∙ get_or-set_same one (s * 16 + (4 + T)) carry 0 (simp length-set (omega arith))));
+              at_group 4 T (set three (s * 16 + (8 + E)) met)
+              ∙ (get_or-set_other three (s * 16 + (8 + E)) (s * 16 + (4 + T)) met 0 (λ e. omega arith)
+              ∙ get_or-set_same two (s * 16 + (4 + T)) carry 0 (simp length-set (omega arith)));
           met_there =
-              at_group 8 E (set three (s * 16 + 12) last)
-              ∙ (get_or-set_other three (s * 16 + 12) (s * 16 + (8 + E)) last 0 (λ e. omega arith)
-              ∙ get_or-set_same two (s * 16 + (8 + E)) met 0 (simp length-set (omega arith)));
-          fail_there = get_or-set_same three (s * 16 + 12) last 0 (simp length-set (omega arith));
+              at_group 8 E (set three (s * 16 + (8 + E)) met)
+              ∙ get_or-set_same three (s * 16 + (8 + E)) met 0 (simp length-set (omega arith));
+          fail_there =
+              get_or-set_other three (s * 16 + (8 + E)) (s * 16 + 12) met 0 (λ e. omega arith)
+              ∙ (get_or-set_other two (s * 16 + (4 + T)) (s * 16 + 12) carry 0 (λ e. omega arith)
+              ∙ (get_or-set_other one (s * 16 + T) (s * 16 + 12) need 0 (λ e. omega arith)
+              ∙ get_or-set_same lanes (s * 16 + 12) joined 0 (omega arith)));
           others = λ i a b c d.
-              get_or-set_other three (s * 16 + 12) i last 0 d
-              ∙ (get_or-set_other two (s * 16 + (8 + E)) i met 0 (λ e. c (omega arith))
-              ∙ (get_or-set_other one (s * 16 + (4 + T)) i carry 0 (λ e. b (omega arith))
-              ∙ get_or-set_other lanes (s * 16 + T) i need 0 a));
+              get_or-set_other three (s * 16 + (8 + E)) i met 0 (λ e. c (omega arith))
+              ∙ (get_or-set_other two (s * 16 + (4 + T)) i carry 0 (λ e. b (omega arith))
+              ∙ (get_or-set_other one (s * 16 + T) i need 0 a
+              ∙ get_or-set_other lanes (s * 16 + 12) i joined 0 d));
         }
 
     stored_words : need < 65536 → carry < 65536 → met < 65536 → fail < 65536 → Words16 lanes
         → Words16 (stores T E s need carry met fail lanes)
     stored_words n c m f words =
-        words_set three (s * 16 + 12) last (simp length-set (omega arith)) (or_lt 16 (get_or lanes (s * 16 + 12) 0) fail (words (s * 16 + 12)) f)
-        (words_set two (s * 16 + (8 + E)) met (simp length-set (omega arith)) m
-        (words_set one (s * 16 + (4 + T)) carry (simp length-set (omega arith)) c
-        (words_set lanes (s * 16 + T) need (omega arith) n words)))
+        words_set three (s * 16 + (8 + E)) met (simp length-set (omega arith)) m
+        (words_set two (s * 16 + (4 + T)) carry (simp length-set (omega arith)) c
+        (words_set one (s * 16 + T) need (simp length-set (omega arith)) n
+        (words_set lanes (s * 16 + 12) joined (omega arith) (or_lt 16 (get_or lanes (s * 16 + 12) 0) fail (words (s * 16 + 12)) f) words)))
 
 -- ---- a temporal node added to a block
 
@@ -165,7 +166,7 @@ module _ (table : Table) (node : ℕ → Node) (n s need carry met fail : ℕ) (
           rw (list_same 7 node n l, met_kept e e_old) (old.met e b e_old m)
       go (no l) =
           grown 7 node n (λ e. s * 16 + 8 + e) (λ x. meets table node x s) lanes lanes' (omega arith) old.met met_kept
-          (rw put.met_there (new.met_is (omega arith))) e b k m
+          (rw put.met_there new.met_is) e b k m
 
   -- bit b of the last word
   failing : (b : ℕ) → b < 16
@@ -221,7 +222,7 @@ module _ (table : Table) (node : ℕ → Node) (n s need carry met fail : ℕ) (
   block_added T E counts few =
       record {
         words =
-            stored_words T E s need carry met fail lanes few fewer fits new.need_is.within new.carry_is.within new.met_small
+            stored_words T E s need carry met fail lanes few fewer fits new.need_is.within new.carry_is.within new.met_is.within
             new.fail_is.within;
         others = λ i out.
             ⊎_elim

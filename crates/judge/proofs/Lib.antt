@@ -1,5 +1,5 @@
 -- What is shown of the judge.
 pub mod Refused
 pub mod Passed
-pub mod Verdict
+pub mod Verdicts
 pub mod Unique

@@ -1,9 +1,10 @@
 -- What is known of a case and a run that nothing refuses: the run is one of the table's, the scratch has room, and the nodes' bytes are
 -- bits of an entry, so that the truth of each node can be told. Assumes nothing.
+use Rattle.std.specs.Prelude.{Ok}
 use Prim.Native.Nat.{ℕ, suc, ◌+◌, ◌-◌, ◌≤◌, ◌<◌}
 use native.Mathlib.Decide.{dec_lt, ℕ_discrete}
-use mathlib.Core.Path.{◌≡◌, refl, sym, ap, ◌∙◌, subst}
-use mathlib.Core.Bool.{Bool, true, false, not}
+use mathlib.Core.Path.{◌≡◌, sym, ap, ◌∙◌, subst}
+use mathlib.Core.Bool.{false, not}
 use mathlib.Core.List.{List}
 use native.Mathlib.Omega.{arith}
 use lib.Dec.{T, ltb, eqb}
@@ -19,20 +20,9 @@ use Rattle.reading.specs.Parts.{Parts, node_of, node_count}
 use Rattle.reading.specs.Lowest.{any}
 use Rattle.reading.proofs.Lowest.{any_false, any_none}
 use Rattle.reading.proofs.Admitted.{Admitted}
-use Rattle.judge.specs.declared.RunRefusal.{RunRefusal}
-use Rattle.judge.specs.declared.RunCheck.{RunCheck}
-use Rattle.judge.specs.declared.RunCheck.TheVariants.{Passed}
-use Rattle.judge.specs.Refusals.{refused_if, outside, gap, stored_refusal, run_refusal}
+use Rattle.judge.specs.Refusals.{outside, gap, stored_refusal, run_refusal}
+use Rattle.judge.proofs.Refused.{not_refused}
 use Rattle.scratch.proofs.Scratch.{width}
-
--- ---- a row that did not refuse, and the later ones
-
-not_refused : (b : Bool) (r : RunRefusal) (later : RunCheck) → refused_if b r later ≡ Passed → (b ≡ false) × (later ≡ Passed)
-not_refused false r later e = (refl, e)
-not_refused true r later e = absurd (omega (arith, clash))
-  where
-    clash : ◌≡◌ {A = ℕ} 0 1
-    clash = cc
 
 -- what the six rows leave
 pub record Free (t : Table) (track : List ℕ) (k m room : ℕ) : Type 0 where
@@ -43,15 +33,15 @@ pub record Free (t : Table) (track : List ℕ) (k m room : ℕ) : Type 0 where
   pub no_gap : any (gap t track k m) (k + m) ≡ false
   pub room_enough : ltb room (k + m) ≡ false
 
-pub free : (t : Table) (track : List ℕ) (k m room : ℕ) → run_refusal t track k m room ≡ Passed → Free t track k m room
+pub free : (t : Table) (track : List ℕ) (k m room : ℕ) → run_refusal t track k m room ≡ Ok tt → Free t track k m room
 unfolding run_refusal stored_refusal
 free t track k m room passed =
-    let by_50 = not_refused (eqb m 0) _ _ passed in
-    let by_51 = not_refused (ltb (length track) (k + m)) _ _ by_50.1 in
-    let by_52 = not_refused (any (outside t track) (k + m)) _ _ by_51.1 in
-    let by_53 = not_refused (not (t.initial (get_or track 0 0))) _ _ by_52.1 in
-    let by_54 = not_refused (any (gap t track k m) (k + m)) _ _ by_53.1 in
-    let by_40 = not_refused (ltb room (k + m)) _ _ by_54.1 in
+    let by_50 = not_refused _ _ _ _ passed in
+    let by_51 = not_refused _ _ _ _ by_50.1 in
+    let by_52 = not_refused _ _ _ _ by_51.1 in
+    let by_53 = not_refused _ _ _ _ by_52.1 in
+    let by_54 = not_refused _ _ _ _ by_53.1 in
+    let by_40 = not_refused _ _ _ _ by_54.1 in
     record {
       loops = by_50.0;
       held = by_51.0;
@@ -98,7 +88,7 @@ module _ {t : Table} {track : List ℕ} {k m room : ℕ} (f : Free t track k m r
   free_room = ltb-false room (k + m) f.room_enough
 
 -- rows 50 to 54 and 40 pass a run of the table that the scratch has room for
-pub run_passes : (t : Table) (track : List ℕ) (k m room : ℕ) → Run t track k m → k + m ≤ room → run_refusal t track k m room ≡ RunCheck.Passed
+pub run_passes : (t : Table) (track : List ℕ) (k m room : ℕ) → Run t track k m → k + m ≤ room → run_refusal t track k m room ≡ Ok tt
 unfolding run_refusal stored_refusal
 run_passes t track k m room r h =
     rw (ne_eqb m 0 some, le-ltb (length track) (k + m) r.stored, inside, T_is_true (t.initial (get_or track 0 0)) r.begins, stepping, le-ltb room (k + m) h)

@@ -1,62 +1,50 @@
--- The rows on runs, one by one: which is given, by the tests that came before it. Assumes nothing.
+-- The rows on runs as the judge meets them: a walk that ends at r gives its row's refusal at r, or none; and a row that was asked alone,
+-- before the later ones. Assumes nothing.
+use Rattle.std.specs.Prelude.{⊤, Ok, Err}
 use Prim.Native.Nat.{ℕ, ◌+◌, ◌≤◌, ◌<◌}
-use mathlib.Core.Path.{◌≡◌, ap}
+use mathlib.Core.Path.{◌≡◌, refl}
 use mathlib.Core.Bool.{Bool, true, false}
 use mathlib.Core.List.{List}
-use lib.ListN.{length, get_or}
+use native.Mathlib.Omega.{arith}
+use lib.ListN.{length}
 use borrow.Author.Tests.{lt-ltb, le-ltb, eq-eqb, ne_eqb}
 use Rattle.meaning.specs.Table.{Table}
-use Rattle.reading.specs.Lowest.{lowest, any}
-use Rattle.judge.specs.declared.RunRefusal.TheVariants.{NoLoop, TooLong, NoState, NotInitial, NoEdge, NoRoom}
-use Rattle.judge.specs.declared.RunCheck.TheVariants.{Passed, Refused}
-use Rattle.judge.specs.Refusals.{outside, gap, stored_refusal, run_refusal}
+use Rattle.reading.specs.Lowest.{lowest}
+use Rattle.reading.proofs.Lowest.{lowest_is, any_found, any_none}
+use Rattle.judge.specs.declared.RunRefusal.{RunRefusal}
+use Rattle.judge.specs.declared.RunRefusal.TheVariants.{NoLoop, TooLong}
+use Rattle.judge.specs.Refusals.{RunCheck, refused_if, refused_at, stored_refusal, run_refusal}
 
--- some entry is found, or none is
-some : (test : ℕ → Bool) (n o : ℕ) → o ≡ lowest test n → o < n → any test n ≡ true
-unfolding any
-some test n o e h = rw (← e) (lt-ltb o n h)
+module _ (bad : ℕ → Bool) (n : ℕ) (row : ℕ → RunRefusal) where
+  -- a walk that passed every entry below r and stops there, since it is bad
+  pub refused_here : (r : ℕ) → r < n → ((j : ℕ) → j < r → bad j ≡ false) → bad r ≡ true → Err (row r) ≡ refused_at bad n row (Ok tt)
+  refused_here r h passed found =
+      let there : r ≡ lowest bad n = lowest_is bad n r (omega arith) passed (λ _. found) in
+      simp (any_found bad n r h found, ← there)
 
-none : (test : ℕ → Bool) (n o : ℕ) → o ≡ lowest test n → n ≤ o → any test n ≡ false
-unfolding any
-none test n o e h = rw (← e) (le-ltb o n h)
+  -- a walk that passed them all
+  pub none_refused : ((j : ℕ) → j < n → bad j ≡ false) → Ok tt ≡ refused_at bad n row (Ok tt)
+  none_refused passed = simp (any_none bad n passed)
+
+-- a row that refused alone refuses before the later ones
+pub refused_alone : (b : Bool) (r e : RunRefusal) (later : RunCheck) → refused_if b r (Ok tt) ≡ Err e → refused_if b r later ≡ Err e
+refused_alone true r e later p = p
+refused_alone false r e later p = cc
+
+-- a row that did not refuse, and the later ones
+pub not_refused : (b : Bool) (r : RunRefusal) (later : RunCheck) (u : ⊤) → refused_if b r later ≡ Ok u → (b ≡ false) × (later ≡ Ok u)
+not_refused false r later u e = (refl, e)
+not_refused true r later u e = cc
 
 module _ (t : Table) (track : List ℕ) (k m room : ℕ) where
-  module _ (o : ℕ) (eo : o ≡ lowest (outside t track) (k + m)) where
-    pub refused_52 : o < k + m → Refused (NoState o) ≡ stored_refusal t track k m room
-    unfolding stored_refusal
-    refused_52 h = rw (some (outside t track) (k + m) o eo h) (ap (λ (x : ℕ). Refused (NoState x)) eo)
-
-    module _ (states : k + m ≤ o) where
-      pub refused_53 : t.initial (get_or track 0 0) ≡ false → Refused NotInitial ≡ stored_refusal t track k m room
-      unfolding stored_refusal
-      refused_53 h = rw (none (outside t track) (k + m) o eo states, h)
-
-      module _ (begins : t.initial (get_or track 0 0) ≡ true) (g : ℕ) (eg : g ≡ lowest (gap t track k m) (k + m)) where
-        pub refused_54 : g < k + m → Refused (NoEdge g) ≡ stored_refusal t track k m room
-        unfolding stored_refusal
-        refused_54 h =
-            rw (none (outside t track) (k + m) o eo states, begins, some (gap t track k m) (k + m) g eg h)
-            (ap (λ (x : ℕ). Refused (NoEdge x)) eg)
-
-        module _ (steps : k + m ≤ g) where
-          pub refused_40 : room < k + m → Refused (NoRoom (k + m)) ≡ stored_refusal t track k m room
-          unfolding stored_refusal
-          refused_40 h =
-              rw (none (outside t track) (k + m) o eo states, begins, none (gap t track k m) (k + m) g eg steps, lt-ltb room (k + m) h)
-
-          pub passed_stored : k + m ≤ room → Passed ≡ stored_refusal t track k m room
-          unfolding stored_refusal
-          passed_stored h =
-              rw (none (outside t track) (k + m) o eo states, begins, none (gap t track k m) (k + m) g eg steps, le-ltb room (k + m) h)
-
-  pub refused_50 : m ≡ 0 → Refused NoLoop ≡ run_refusal t track k m room
+  pub refused_50 : m ≡ 0 → run_refusal t track k m room ≡ Err NoLoop
   unfolding run_refusal
   refused_50 e = rw (eq-eqb m 0 e)
 
-  pub refused_51 : (m ≡ 0 → ⊥) → length track < k + m → Refused (TooLong (length track)) ≡ run_refusal t track k m room
+  pub refused_51 : (m ≡ 0 → ⊥) → length track < k + m → run_refusal t track k m room ≡ Err (TooLong (length track))
   unfolding run_refusal
   refused_51 e h = rw (ne_eqb m 0 e, lt-ltb (length track) (k + m) h)
 
-  pub stored_run : (m ≡ 0 → ⊥) → k + m ≤ length track → stored_refusal t track k m room ≡ run_refusal t track k m room
+  pub stored_run : 1 ≤ m → k + m ≤ length track → run_refusal t track k m room ≡ stored_refusal t track k m room
   unfolding run_refusal
-  stored_run e h = rw (ne_eqb m 0 e, le-ltb (length track) (k + m) h)
+  stored_run e h = rw (ne_eqb m 0 (λ z. omega arith), le-ltb (length track) (k + m) h)

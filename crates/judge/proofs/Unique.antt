@@ -1,4 +1,5 @@
 -- Any two outcomes that the judge's promise allows for one input coincide: the answer and every entry of the scratch. Assumes nothing.
+use Rattle.std.specs.Prelude.{Ok, Err}
 use Prim.Native.Nat.{ℕ}
 use mathlib.Core.Path.{◌≡◌, sym, ◌∙◌}
 use mathlib.Core.List.{List}
@@ -7,20 +8,17 @@ use lib.ListN.{length}
 use Rattle.meaning.specs.Formula.{Formula}
 use Rattle.meaning.specs.Table.{Table}
 use Rattle.reading.specs.Parts.{table_of}
-use Rattle.reading.specs.Refusals.{parts_of, refusal}
-use Rattle.reading.specs.declared.Check.{Check}
-use Rattle.judge.specs.declared.RunCheck.{RunCheck}
-use Rattle.judge.specs.declared.Answer.{Answer}
-use Rattle.judge.specs.declared.Answer.TheVariants.{Satisfied, Violated}
-use Rattle.judge.specs.Refusals.{run_refusal}
-use Rattle.judge.specs.Judged.{Told, outcome, Judged}
+use Rattle.reading.specs.Refusals.{Check, parts_of, refusal}
+use Rattle.judge.specs.declared.Verdict.TheVariants.{Satisfied, Violated}
+use Rattle.judge.specs.Refusals.{RunCheck, run_refusal}
+use Rattle.judge.specs.Judged.{Answer, Told, outcome, Judged}
 
 module _ (before : List ℕ) (a b : Answer) (s t : List ℕ) where
   abbrev Same : Type 0
   Same = (a ≡ b) × (s ≡ t)
 
   -- a run violates or not
-  same_verdict : {B : Type 0} → ((a ≡ Violated) × B) ⊎ ((a ≡ Satisfied) × (B → ⊥)) → ((b ≡ Violated) × B) ⊎ ((b ≡ Satisfied) × (B → ⊥))
+  same_verdict : {B : Type 0} → ((a ≡ Ok Violated) × B) ⊎ ((a ≡ Ok Satisfied) × (B → ⊥)) → ((b ≡ Ok Violated) × B) ⊎ ((b ≡ Ok Satisfied) × (B → ⊥))
       → a ≡ b
   same_verdict (inl (p, v)) (inl (q, w)) = p ∙ sym q
   same_verdict (inl (p, v)) (inr (q, w)) = absurd (w v)
@@ -33,9 +31,9 @@ module _ (before : List ℕ) (a b : Answer) (s t : List ℕ) where
 
   same_outcome : (case : Check) (run : RunCheck) (X Y : Type 0) → (X → Y → Same) → outcome case run before a s X
       → outcome case run before b t Y → Same
-  same_outcome (Check.Refused r) run X Y same (p, q) (p', q') = (p ∙ sym p', q ∙ sym q')
-  same_outcome Check.Passed (RunCheck.Refused r) X Y same (p, q) (p', q') = (p ∙ sym p', q ∙ sym q')
-  same_outcome Check.Passed RunCheck.Passed X Y same x y = same x y
+  same_outcome (Err r) run X Y same (p, q) (p', q') = (p ∙ sym p', q ∙ sym q')
+  same_outcome (Ok _) (Err r) X Y same (p, q) (p', q') = (p ∙ sym p', q ∙ sym q')
+  same_outcome (Ok _) (Ok _) X Y same x y = same x y
 
   pub judged_unique : (bytes track : List ℕ) (k m : ℕ) → Judged bytes track k m before a s → Judged bytes track k m before b t → Same
   unfolding Judged

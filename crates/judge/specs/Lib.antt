@@ -1,4 +1,4 @@
--- What is believed of the judge, in the order of the paper; and, in `Node`, one definition that contracts cite.
+-- What is believed of the judge, in the order of the paper; and, in `Truths`, what contracts inside cite.
 pub mod Refusals
 pub mod Judged
-pub mod Node
+pub mod Truths

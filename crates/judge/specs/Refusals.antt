@@ -1,17 +1,23 @@
 -- What refuses a run that the judge is given: "50, 51, 52, 53, 54, 40".
-use Rattle.std.specs.Prelude.{ℕ, suc, ◌+◌, Bool, true, false, not, List, leb, ltb, eqb, length, get_or}
+use Rattle.std.specs.Prelude.{ℕ, suc, ◌+◌, Bool, true, false, not, List, ⊤, Result, Ok, Err, leb, ltb, eqb, length, get_or}
 use Rattle.meaning.specs.Table.{Table}
 use Rattle.meaning.specs.Runs.{position}
 use Rattle.reading.specs.Lowest.{lowest, any}
 use Rattle.judge.specs.declared.RunRefusal.{RunRefusal}
 use Rattle.judge.specs.declared.RunRefusal.TheVariants.{NoLoop, TooLong, NoState, NotInitial, NoEdge, NoRoom}
-use Rattle.judge.specs.declared.RunCheck.{RunCheck}
-use Rattle.judge.specs.declared.RunCheck.TheVariants.{Passed, Refused}
+
+-- what the rows on runs say
+abbrev pub RunCheck : Type 0
+RunCheck = Result ⊤ RunRefusal
 
 -- a row refuses, or the later ones say
 abbrev pub refused_if : Bool → RunRefusal → RunCheck → RunCheck
-refused_if true r later = Refused r
+refused_if true r later = Err r
 refused_if false r later = later
+
+-- "Always the lowest place": the row's refusal at the lowest bad entry of the first n
+abbrev pub refused_at : (ℕ → Bool) → ℕ → (ℕ → RunRefusal) → RunCheck → RunCheck
+refused_at bad n row later = refused_if (any bad n) (row (lowest bad n)) later
 
 -- 52: "entry is S or more"
 abbrev pub outside : Table → List ℕ → ℕ → Bool
@@ -24,11 +30,11 @@ gap t track k m i = not (t.edge (get_or track i 0) (get_or track (position k m (
 -- 52, 53 ("first state not initial"), 54 and 40 ("scratch too short"), of a run that the track holds
 unfoldable pub stored_refusal : Table → List ℕ → ℕ → ℕ → ℕ → RunCheck
 stored_refusal t track k m room =
-    refused_if (any (outside t track) (k + m)) (NoState (lowest (outside t track) (k + m)))
+    refused_at (outside t track) (k + m) NoState
     (refused_if (not (t.initial (get_or track 0 0))) NotInitial
-    (refused_if (any (gap t track k m) (k + m)) (NoEdge (lowest (gap t track k m) (k + m)))
+    (refused_at (gap t track k m) (k + m) NoEdge
     (refused_if (ltb room (k + m)) (NoRoom (k + m))
-    Passed)))
+    (Ok tt))))
 
 -- 50: "m is 0"; 51: "k+m exceeds the track's length, as whole numbers"
 unfoldable pub run_refusal : Table → List ℕ → ℕ → ℕ → ℕ → RunCheck

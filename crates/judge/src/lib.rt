@@ -3,18 +3,19 @@
 #![tactic(auto)]
 
 ghost use Rattle.std.specs.Prelude.{◌≡◌};
-ghost use Rattle.reading.specs.Refusals.{case_of};
-ghost use Rattle.reading.specs.declared.Case.{Case};
-ghost use Rattle.judge.specs.Judged.{Judged, run_number, run_place, answer_number, answer_place};
+ghost use Rattle.judge.specs.Judged.{Judged, run_number, run_place, refusal_number, refusal_place, verdict_number};
 
-use reading::{Case, CaseRefusal, Shape, parts};
+use reading::CaseRefusal;
 
 mod refuse;
-mod run;
+pub mod run;
 pub mod truths;
+mod word;
+
+use truths::Judging;
 
 // What refuses a run: rows 50 to 54 and 40, with the place that the row gives.
-#[derive(Clone, Copy)]
+#[derive(Clone, Copy, PartialEq, Eq)]
 pub enum RunRefusal {
     NoLoop,
     TooLong(usize),
@@ -24,105 +25,123 @@ pub enum RunRefusal {
     NoRoom(usize),
 }
 
-// What the rows on runs say.
-#[derive(Clone, Copy)]
-pub enum RunCheck {
-    Passed,
-    Refused(RunRefusal),
+// Why there is no verdict: the case is refused, or the run is.
+#[derive(Clone, Copy, PartialEq, Eq)]
+pub enum Refusal {
+    Case(CaseRefusal),
+    Run(RunRefusal),
 }
 
-// The judge's answer.
-#[derive(Clone, Copy)]
-pub enum Answer {
-    CaseRefused(CaseRefusal),
-    RunRefused(RunRefusal),
+// What the judge says of a run.
+#[derive(Clone, Copy, PartialEq, Eq)]
+pub enum Verdict {
     Satisfied,
     Violated,
 }
 
-// Judges the run of stem k and loop m that the track holds.
-pub fn judge(bytes: &[u8], track: &[u16], k: u64, m: u64, scratch: &mut [truths::Entry]) -> Answer
-    ensures { Judged bytes.now track.now k m scratch.old result scratch.new }
-{
-    let case = reading::admit(bytes);
-    match case {
-        Case::Refused(r) => Answer::CaseRefused(r),
-        Case::Admitted(shape) => judge_admitted(bytes, shape, track, k, m, scratch),
+impl RunRefusal {
+    // The row of a refusal.
+    pub fn number(self) -> usize
+        ensures { result ≡ run_number self }
+    {
+        match self {
+            RunRefusal::NoLoop => 50,
+            RunRefusal::TooLong(_) => 51,
+            RunRefusal::NoState(_) => 52,
+            RunRefusal::NotInitial => 53,
+            RunRefusal::NoEdge(_) => 54,
+            RunRefusal::NoRoom(_) => 40,
+        }
+    }
+
+    // The place that a refusal gives.
+    pub fn place(self) -> usize
+        ensures { result ≡ run_place self }
+    {
+        match self {
+            RunRefusal::NoLoop | RunRefusal::NotInitial => 0,
+            RunRefusal::TooLong(place)
+            | RunRefusal::NoState(place)
+            | RunRefusal::NoEdge(place)
+            | RunRefusal::NoRoom(place) => place,
+        }
     }
 }
 
-// Judges the run by an admitted case.
-fn judge_admitted(
+impl Refusal {
+    // The row of a refusal.
+    pub fn number(self) -> usize
+        ensures { result ≡ refusal_number self }
+    {
+        match self {
+            Refusal::Case(r) => r.number(),
+            Refusal::Run(r) => r.number(),
+        }
+    }
+
+    // The place that a refusal gives.
+    pub fn place(self) -> usize
+        ensures { result ≡ refusal_place self }
+    {
+        match self {
+            Refusal::Case(r) => r.place(),
+            Refusal::Run(r) => r.place(),
+        }
+    }
+}
+
+impl From<CaseRefusal> for Refusal {
+    ghost use Rattle.judge.specs.declared.Refusal.TheVariants.{Case as refused};
+
+    ghost from_gives = { λ r e. e ≡ refused r };
+
+    fn from(r: CaseRefusal) -> Refusal {
+        Refusal::Case(r)
+    }
+}
+
+impl From<RunRefusal> for Refusal {
+    ghost use Rattle.judge.specs.declared.Refusal.TheVariants.{Run as refused};
+
+    ghost from_gives = { λ r e. e ≡ refused r };
+
+    fn from(r: RunRefusal) -> Refusal {
+        Refusal::Run(r)
+    }
+}
+
+impl Verdict {
+    // The row of a verdict: 0 for satisfied, 1 for violated.
+    pub fn number(self) -> usize
+        ensures { result ≡ verdict_number self }
+    {
+        match self {
+            Verdict::Satisfied => 0,
+            Verdict::Violated => 1,
+        }
+    }
+}
+
+// Judges the run of stem k and loop m that the track holds.
+pub fn judge(
     bytes: &[u8],
-    shape: Shape,
     track: &[u16],
     k: u64,
     m: u64,
     scratch: &mut [truths::Entry],
-) -> Answer
-    requires { case_of bytes.now ≡ Case.Admitted shape }
+) -> Result<Verdict, Refusal>
     ensures { Judged bytes.now track.now k m scratch.old result scratch.new }
 {
-    let states = parts::state_list(bytes, shape);
-    let edges = parts::edge_list(bytes, shape);
-    let nodes = parts::node_list(bytes, shape);
-    let check = refuse::check_run(states, edges, track, k, m, scratch.len());
-    if let RunCheck::Refused(r) = check {
-        return Answer::RunRefused(r);
-    }
-    if truths::rule_holds(states, nodes, track, k as usize, m as usize, scratch) {
-        Answer::Satisfied
+    let case = reading::admit(bytes)?;
+    let run = refuse::check_run(&case, track, k, m, scratch.len())?;
+    let judging = Judging {
+        states: case.states(),
+        nodes: case.nodes(),
+        run,
+    };
+    Ok(if judging.rule_holds(scratch) {
+        Verdict::Satisfied
     } else {
-        Answer::Violated
-    }
-}
-
-// The row of an answer: 0 for satisfied, 1 for violated.
-pub fn number(answer: Answer) -> usize
-    ensures { result ≡ answer_number answer }
-{
-    match answer {
-        Answer::CaseRefused(r) => reading::number(r),
-        Answer::RunRefused(r) => run_number(r),
-        Answer::Satisfied => 0,
-        Answer::Violated => 1,
-    }
-}
-
-fn run_number(r: RunRefusal) -> usize
-    ensures { result ≡ run_number r }
-{
-    match r {
-        RunRefusal::NoLoop => 50,
-        RunRefusal::TooLong(_) => 51,
-        RunRefusal::NoState(_) => 52,
-        RunRefusal::NotInitial => 53,
-        RunRefusal::NoEdge(_) => 54,
-        RunRefusal::NoRoom(_) => 40,
-    }
-}
-
-// The place that an answer gives: 0 for a verdict.
-pub fn place(answer: Answer) -> usize
-    ensures { result ≡ answer_place answer }
-{
-    match answer {
-        Answer::CaseRefused(r) => reading::place(r),
-        Answer::RunRefused(r) => run_place(r),
-        Answer::Satisfied => 0,
-        Answer::Violated => 0,
-    }
-}
-
-fn run_place(r: RunRefusal) -> usize
-    ensures { result ≡ run_place r }
-{
-    match r {
-        RunRefusal::NoLoop => 0,
-        RunRefusal::TooLong(length) => length,
-        RunRefusal::NoState(entry) => entry,
-        RunRefusal::NotInitial => 0,
-        RunRefusal::NoEdge(entry) => entry,
-        RunRefusal::NoRoom(needed) => needed,
-    }
+        Verdict::Violated
+    })
 }

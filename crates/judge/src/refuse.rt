@@ -1,96 +1,85 @@
 // The rows on runs, in the order of the table: 50, 51, 52, 53, 54, 40.
-ghost use Rattle.std.specs.Prelude.{◌≡◌, not, suc, ◌+◌, ◌≤◌, ◌<◌, leb, length};
+ghost use Rattle.std.specs.Prelude.{◌≡◌, suc, ◌+◌, leb, not, get_or, Ok, Err, IfOk, IfErr};
 ghost use Rattle.meaning.specs.Runs.{position};
-ghost use Rattle.reading.specs.Lowest.{lowest};
-ghost use Rattle.reading.specs.Parts.{has_edge};
-ghost use Rattle.judge.specs.Refusals.{stored_refusal, run_refusal};
-ghost use Rattle.scratch.proofs.Scratch.{at, table_from};
+ghost use Rattle.reading.specs.Parts.{table_of, has_edge};
+ghost use Rattle.reading.specs.Refusals.{parts_of};
+ghost use Rattle.judge.specs.Refusals.{refused_at, stored_refusal, run_refusal};
 
-use crate::{RunCheck, RunRefusal, run};
-use reading::parts;
+use crate::RunRefusal;
+use crate::run::Run;
+use reading::parts::{self, Case};
 
-// 50 and 51, and then the rows on a run that the track holds. k and m are any numbers, so their sum is not taken before it is known
+// 50 and 51, and then the rows on the run that the track holds. k and m are any numbers, so their sum is not taken before it is known
 // to be small.
-pub fn check_run(
-    states: &[u8],
-    edges: &[u8],
-    track: &[u16],
+#[tactic(auto, using(crate::proofs::Refused::refused_50, crate::proofs::Refused::refused_51, crate::proofs::Refused::stored_run))]
+pub fn check_run<'a>(
+    case: &Case,
+    track: &'a [u16],
     k: u64,
     m: u64,
     room: usize,
-) -> RunCheck
-    ensures { result ≡ run_refusal (table_from states.now edges.now) track.now k m room }
+) -> Result<Run<'a>, RunRefusal>
+    ensures refused { IfErr result (λ r. run_refusal (table_of (parts_of case.now.bytes.now)) track.now k m room ≡ Err r) }
+    ensures passed { IfOk result (λ run. run_refusal (table_of (parts_of case.now.bytes.now)) run.track.now run.k run.m room
+        ≡ Ok tt) }
+    ensures held { IfOk result (λ run. (run.track.now ≡ track.now) × (run.k ≡ k) × (run.m ≡ m)) }
 {
     if m == 0 {
-        return RunCheck::Refused(RunRefusal::NoLoop);
+        return Err(RunRefusal::NoLoop);
     }
     let length = track.len() as u64;
-    if length < k {
-        return RunCheck::Refused(RunRefusal::TooLong(track.len()));
+    if length < k || length - k < m {
+        return Err(RunRefusal::TooLong(track.len()));
     }
-    if length - k < m {
-        return RunCheck::Refused(RunRefusal::TooLong(track.len()));
-    }
-    check_stored(states, edges, track, k as usize, m as usize, room)
+    let run = Run {
+        track,
+        k: k as usize,
+        m: m as usize,
+    };
+    check_stored(case, &run, room)?;
+    Ok(run)
 }
 
 // 52, 53, 54 and 40.
-fn check_stored(
-    states: &[u8],
-    edges: &[u8],
-    track: &[u16],
-    k: usize,
-    m: usize,
-    room: usize,
-) -> RunCheck
-    requires { (1 ≤ m) × (k + m ≤ length track.now) }
-    ensures { result ≡ stored_refusal (table_from states.now edges.now) track.now k m room }
+fn check_stored(case: &Case, run: &Run, room: usize) -> Result<(), RunRefusal>
+    ensures { result ≡ stored_refusal (table_of (parts_of case.now.bytes.now)) run.now.track.now run.now.k run.now.m room }
 {
-    let outside = lowest_outside(track, states.len() / 3, k + m);
-    if outside < k + m {
-        return RunCheck::Refused(RunRefusal::NoState(outside));
+    check_states(case.shape.states, run)?;
+    if !parts::initial(case.states(), run.entry(0)) {
+        return Err(RunRefusal::NotInitial);
     }
-    if !parts::initial(states, run::entry(track, 0)) {
-        return RunCheck::Refused(RunRefusal::NotInitial);
+    check_steps(case.edges(), run)?;
+    let needed = run.length();
+    if room < needed {
+        return Err(RunRefusal::NoRoom(needed));
     }
-    let gap = lowest_gap(edges, track, k, m);
-    if gap < k + m {
-        return RunCheck::Refused(RunRefusal::NoEdge(gap));
-    }
-    if room < k + m {
-        return RunCheck::Refused(RunRefusal::NoRoom(k + m));
-    }
-    RunCheck::Passed
+    Ok(())
 }
 
-// The lowest entry that is S or more, of the first `count`.
-fn lowest_outside(track: &[u16], states: usize, count: usize) -> usize
-    requires { count ≤ length track.now }
-    ensures { result ≡ lowest (λ i. leb states (at track.now i)) count }
+// 52, at the lowest entry that is S or more.
+fn check_states(states: usize, run: &Run) -> Result<(), RunRefusal>
+    ensures { result ≡ refused_at (λ i. leb states (get_or run.now.track.now i 0)) (run.now.k + run.now.m)
+        RunRefusal.NoState (Ok tt) }
 {
-    let mut i = 0;
-    while i < count {
-        if states <= run::entry(track, i) {
-            return i;
+    for i in 0..run.length() {
+        if states <= run.entry(i) {
+            return Err(RunRefusal::NoState(i));
         }
-        i += 1;
     }
-    i
+    Ok(())
 }
 
-// The lowest entry with no edge to the one after it.
-fn lowest_gap(edges: &[u8], track: &[u16], k: usize, m: usize) -> usize
-    requires { (1 ≤ m) × (k + m ≤ length track.now) }
-    ensures { result ≡ lowest (λ i. not (has_edge edges.now (at track.now i)
-        (at track.now (position k m (suc i))))) (k + m) }
+// 54, at the lowest entry with no edge to the one after it.
+fn check_steps(edges: &[u8], run: &Run) -> Result<(), RunRefusal>
+    ensures { result ≡ refused_at (λ i. not (has_edge edges.now (get_or run.now.track.now i 0)
+        (get_or run.now.track.now (position run.now.k run.now.m (suc i)) 0))) (run.now.k + run.now.m)
+        RunRefusal.NoEdge (Ok tt) }
 {
-    let mut here = 0;
-    while here < k + m {
-        let next = run::after(k, m, here);
-        if !parts::has_edge(edges, run::entry(track, here), run::entry(track, next)) {
-            return here;
+    for here in 0..run.length() {
+        let next = run.after(here);
+        if !parts::has_edge(edges, run.entry(here), run.entry(next)) {
+            return Err(RunRefusal::NoEdge(here));
         }
-        here += 1;
     }
-    here
+    Ok(())
 }

@@ -1,19 +1,40 @@
-// The entries of a run.
-ghost use Rattle.std.specs.Prelude.{◌≡◌, suc, ◌+◌, ◌^◌, ◌≤◌, ◌<◌, length, get_or};
+// A run that the track holds.
+ghost use Rattle.std.specs.Prelude.{◌≡◌, suc, ◌+◌, ◌≤◌, ◌<◌, length, get_or};
 ghost use Rattle.meaning.specs.Runs.{position};
 
-// The state at an entry of the track.
-pub fn entry(track: &[u16], i: usize) -> usize
-    requires { i < length track.now }
-    ensures { result ≡ get_or track.now i 0 }
-{
-    track[i] as usize
+// A run: the first k + m entries of the track, of which the last m are the loop.
+#[derive(Clone, Copy)]
+pub struct Run<'a> {
+    pub track: &'a [u16],
+    pub k: usize,
+    pub m: usize,
+    pub ghost some_loop: { 1 ≤ m },
+    pub ghost stored: { k + m ≤ length track.now },
 }
 
-// The entry after an entry of the run: after the last comes entry k.
-pub fn after(k: usize, m: usize, i: usize) -> usize
-    requires { (1 ≤ m) × (k + m < 2 ^ 63) × (i < k + m) }
-    ensures { result ≡ position k m (suc i) }
-{
-    if i + 1 < k + m { i + 1 } else { k }
+impl Run<'_> {
+    // How many entries the run has.
+    pub(crate) fn length(&self) -> usize
+        ensures { result ≡ self.now.k + self.now.m }
+    {
+        self.k + self.m
+    }
+
+    // The state at an entry.
+    pub(crate) fn entry(&self, i: usize) -> usize
+        requires { i < self.now.k + self.now.m }
+        ensures { result ≡ get_or self.now.track.now i 0 }
+    {
+        usize::from(self.track[i])
+    }
+
+    // The entry after an entry of the run: after the last comes entry k.
+    #[tactic(auto, using(meaning::proofs::Loops::position_in, scratch::proofs::Entries::position_ends))]
+    pub(crate) fn after(&self, i: usize) -> usize
+        requires { i < self.now.k + self.now.m }
+        ensures next { result ≡ position self.now.k self.now.m (suc i) }
+        ensures within { result < self.now.k + self.now.m }
+    {
+        if i + 1 < self.length() { i + 1 } else { self.k }
+    }
 }

@@ -6,31 +6,29 @@ ghost use Rattle.filled.proofs.Filling.{Leaving, Skipped};
 
 use reading::parts;
 
-// The first edge from e on that leaves state s or a higher one.
+// The first edge from e on that leaves state s or a higher one, or the number of edges.
 fn skip(edges: &[u8], s: usize, e: usize) -> usize
-    requires { (length edges.now ≡ 2 * edge_count edges.now) × (e ≤ edge_count edges.now) }
+    requires bytes { length edges.now ≡ 2 * edge_count edges.now }
+    requires within { e ≤ edge_count edges.now }
     ensures { Skipped edges.now s e result }
 {
     let count = edges.len() / 2;
-    let mut at = e;
-    while at < count {
-        if s <= parts::end(edges, at, parts::FROM) {
+    for at in e..count {
+        if s <= parts::edge_at(edges, at).from {
             return at;
         }
-        at += 1;
     }
-    at
+    count
 }
 
-pub fn fill(edges: &[u8], count: usize, starts: &mut [u16; 65])
-    requires { Leaving edges.now count × (length starts.old ≡ 65) }
-    ensures { Starts (from_of edges.now) (edge_count edges.now) count starts.new }
+// Sets the starts of states 0 to S-1, and after them the number of edges.
+pub fn fill(edges: &[u8], states: usize, starts: &mut [u16; 65])
+    requires { Leaving edges.now states }
+    ensures { Starts (from_of edges.now) (edge_count edges.now) states starts.new }
 {
     let mut e = 0;
-    let mut s = 0;
-    while s <= count {
+    for s in 0..=states {
         e = skip(edges, s, e);
         starts[s] = e as u16;
-        s += 1;
     }
 }

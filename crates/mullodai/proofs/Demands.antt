@@ -1,6 +1,7 @@
 -- The three demands, for a stranger. `StateOutcome`, `StatesOutcome`, `JudgeOutcome` and `SearchOutcome` (specs/Outcomes.antt) are, by
 -- name, the whole `ensures` of the four functions of include/mullodai.h, which require nothing. So each line below speaks of anything
 -- that a call can answer and leave behind, whatever bytes, lists and numbers it was handed. Assumes nothing.
+use Rattle.std.specs.Prelude.{Ok, Err}
 use Prim.Native.Nat.{ℕ, ◌+◌, ◌*◌, ◌≤◌, ◌<◌}
 use mathlib.Core.Path.{◌≡◌}
 use mathlib.Core.List.{List, ◌++◌}
@@ -12,11 +13,9 @@ use Rattle.reading.specs.Refusals.{parts_of, refusal}
 use Rattle.reading.specs.Answers.{number_of, place_of}
 use Rattle.reading.specs.declared.StateRecord.{StateRecord}
 use Rattle.reading.specs.declared.CaseRefusal.{CaseRefusal}
-use Rattle.reading.specs.declared.Check.TheVariants.{Passed, Refused}
 use Rattle.judge.specs.Refusals.{run_refusal}
 use Rattle.judge.specs.Judged.{run_number, run_place}
 use Rattle.judge.specs.declared.RunRefusal.{RunRefusal}
-use Rattle.judge.specs.declared.RunCheck.{RunCheck}
 use Rattle.mullodai.specs.Outcomes.{no_record, answer_at, StateOutcome, StatesOutcome, JudgeOutcome, SearchOutcome}
 use Rattle.mullodai.specs.declared.StateAnswer.{StateAnswer}
 use Rattle.mullodai.specs.declared.Answer.{Answer}
@@ -48,7 +47,7 @@ demand_1_search = search.one_search_outcome
 
 -- A case that a row refuses (`refusal`, the table in its order) is refused with that row's number and place by every entry, and then
 -- every lent buffer is as it was lent.
-module _ (bytes : List ℕ) (q : CaseRefusal) (refused : refusal bytes ≡ Refused q) where
+module _ (bytes : List ℕ) (q : CaseRefusal) (refused : refusal bytes ≡ Err q) where
   pub refused_state : (s : ℕ) (r : StateAnswer) → StateOutcome bytes s r
       → (r.number ≡ number_of q) × (r.place ≡ place_of q) × (r.state ≡ no_record)
   refused_state s r o = state.case_refused bytes s r o q refused
@@ -68,7 +67,7 @@ module _ (bytes : List ℕ) (q : CaseRefusal) (refused : refusal bytes ≡ Refus
 
 -- Of a case that no row refuses, each entry refuses its own rows, 42, 50 to 54, 40 and 41, each with its place and with every lent buffer as
 -- it was lent; and nothing else.
-module _ (bytes : List ℕ) (read : refusal bytes ≡ Passed) where
+module _ (bytes : List ℕ) (read : refusal bytes ≡ Ok tt) where
   pub own_state : (s : ℕ) (r : StateAnswer) → StateOutcome bytes s r
       → ((parts_of bytes).states ≤ s → (r.number ≡ 42) × (r.place ≡ (parts_of bytes).states) × (r.state ≡ no_record))
       × (s < (parts_of bytes).states → r.number ≡ 0)
@@ -81,7 +80,7 @@ module _ (bytes : List ℕ) (read : refusal bytes ≡ Passed) where
 
   -- (what is not refused is answered 0 or 1: `demand_2`, `demand_2_satisfies`)
   pub own_judge : (track : List ℕ) (k m : ℕ) (scratch : List ℕ) (r : Answer) (after : List ℕ) → JudgeOutcome bytes track k m scratch r after
-      → (q : RunRefusal) → run_refusal (table_of (parts_of bytes)) track k m (length scratch) ≡ RunCheck.Refused q
+      → (q : RunRefusal) → run_refusal (table_of (parts_of bytes)) track k m (length scratch) ≡ Err q
       → (r ≡ answer_at (run_number q) (run_place q)) × (after ≡ scratch)
   own_judge track k m scratch r after o = judge.run_refused bytes track k m scratch r after o read
 
@@ -98,13 +97,13 @@ module _ (bytes : List ℕ) (read : refusal bytes ≡ Passed) where
 
 module _ (bytes track : List ℕ) (k m : ℕ) (scratch : List ℕ) (r : Answer) (after : List ℕ)
     (outcome : JudgeOutcome bytes track k m scratch r after)
-    (read : refusal bytes ≡ Passed) where
+    (read : refusal bytes ≡ Ok tt) where
   -- any run whatever, if the scratch has room for it
   pub demand_2 : (r.number ≡ 1) ↔ ((k + m ≤ length scratch) × Violates (table_of (parts_of bytes)) (rule_of (parts_of bytes)) track k m)
   demand_2 = judge.says_violates bytes track k m scratch r after outcome read
 
   -- and 0 to any other that rows 50 to 54 and 40 pass; after either the first k+m entries of the scratch are 0, the rest untouched
-  pub demand_2_satisfies : run_refusal (table_of (parts_of bytes)) track k m (length scratch) ≡ RunCheck.Passed
+  pub demand_2_satisfies : run_refusal (table_of (parts_of bytes)) track k m (length scratch) ≡ Ok tt
       → ((r.number ≡ 0) ↔ (Violates (table_of (parts_of bytes)) (rule_of (parts_of bytes)) track k m → ⊥))
       × (after ≡ replicate (k + m) 0 ++ drop (k + m) scratch)
   demand_2_satisfies asked = (
@@ -116,7 +115,7 @@ module _ (bytes track : List ℕ) (k m : ℕ) (scratch : List ℕ) (r : Answer) 
 
 module _ (bytes workspace track : List ℕ) (r : Answer) (workspace' track' : List ℕ)
     (outcome : SearchOutcome bytes workspace track r workspace' track')
-    (read : refusal bytes ≡ Passed)
+    (read : refusal bytes ≡ Ok tt)
     (room : 6 * places (parts_of bytes) ≤ length workspace)
     (track_room : 2 * places (parts_of bytes) ≤ length track) where
   -- "holds" exactly when no looping run, of any length, breaks the rule

@@ -1,7 +1,8 @@
 -- What the exported judge promises. `JudgeOutcome` is, by name, the whole `ensures` of
 -- `mullodai_judge`; each line below speaks of any answer r, with the scratch then left, that it allows. Assumes nothing.
+use Rattle.std.specs.Prelude.{Ok, Err}
 use Prim.Native.Nat.{ℕ, ◌+◌, ◌≤◌}
-use mathlib.Core.Path.{◌≡◌, refl, sym, ap, subst, ◌∙◌}
+use mathlib.Core.Path.{◌≡◌, refl, sym, ap, ◌∙◌}
 use mathlib.Core.List.{List, ◌++◌}
 use mathlib.Core.Logic.{⊎_elim, ◌↔◌}
 use native.Mathlib.Omega.{arith}
@@ -11,17 +12,14 @@ use Rattle.reading.specs.Parts.{table_of, rule_of}
 use Rattle.reading.specs.Refusals.{parts_of, refusal}
 use Rattle.reading.specs.Answers.{number_of, place_of}
 use Rattle.reading.specs.declared.CaseRefusal.{CaseRefusal}
-use Rattle.reading.specs.declared.Check.{Check}
-use Rattle.reading.specs.declared.Check.TheVariants.{Passed, Refused}
-use Rattle.judge.specs.Refusals.{run_refusal}
-use Rattle.judge.specs.Judged.{Judged, Told, outcome, answer_number, answer_place, run_number, run_place}
+use Rattle.judge.specs.Refusals.{RunCheck, run_refusal}
+use Rattle.judge.specs.Judged.{Judged, Told, outcome, run_number, run_place}
 use Rattle.judge.specs.declared.RunRefusal.{RunRefusal}
-use Rattle.judge.specs.declared.RunCheck.{RunCheck}
-use Rattle.judge.specs.declared.Answer as judge
+use Rattle.judge.specs.Judged as judge
 use Rattle.judge.specs.declared.RunRefusal.TheVariants.{NoLoop, TooLong, NoState, NotInitial, NoEdge, NoRoom}
 use Rattle.judge.proofs.Unique.{judged_unique}
 use Rattle.judge.proofs.Passed.{free, free_room, run_passes}
-use Rattle.mullodai.specs.Outcomes.{answer_at, JudgeOutcome}
+use Rattle.mullodai.specs.Outcomes.{answer_at, judge_answer, JudgeOutcome}
 use Rattle.mullodai.specs.declared.Answer.{Answer}
 
 -- two outcomes for one input coincide: the answer, and every entry of the scratch
@@ -29,62 +27,42 @@ pub one_judge_outcome : (bytes track : List ℕ) (k m : ℕ) (scratch : List ℕ
     → JudgeOutcome bytes track k m scratch r after → JudgeOutcome bytes track k m scratch r' after' → (r ≡ r') × (after ≡ after')
 one_judge_outcome bytes track k m scratch r r' after after' (a, o, e) (a', o', e') =
     let same = judged_unique scratch a a' after after' bytes track k m o o' in
-    (e ∙ ap (λ (x : judge.Answer). answer_at (answer_number x) (answer_place x)) same.0 ∙ sym e', same.1)
+    (e ∙ ap (judge_answer) same.0 ∙ sym e', same.1)
 
 module _ (bytes track : List ℕ) (k m : ℕ) (scratch : List ℕ) (r : Answer) (after : List ℕ)
     (allowed : JudgeOutcome bytes track k m scratch r after) where
   -- of a refused case: the refusal's number and place, and the scratch as it was lent
-  pub case_refused : (q : CaseRefusal) → refusal bytes ≡ Refused q → (r ≡ answer_at (number_of q) (place_of q)) × (after ≡ scratch)
+  pub case_refused : (q : CaseRefusal) → refusal bytes ≡ Err q → (r ≡ answer_at (number_of q) (place_of q)) × (after ≡ scratch)
   unfolding Judged
   case_refused q e =
       let (a, o, s) = allowed in
-      let known = subst
-      (λ (c : Check). outcome c (run_refusal (table_of (parts_of bytes)) track k m (length scratch)) scratch a after
-      (Told (table_of (parts_of bytes)) (rule_of (parts_of bytes)) track k m scratch a after))
-      e o in
-      (s ∙ ap (λ (x : judge.Answer). answer_at (answer_number x) (answer_place x)) known.0, known.1)
+      let known = rw e at o in
+      (s ∙ ap judge_answer known.0, known.1)
 
-  module _ (read : refusal bytes ≡ Passed) where
+  module _ (read : refusal bytes ≡ Ok tt) where
     -- of a run that rows 50 to 54 or 40 refuse: the row's number and place, and the scratch as it was lent
-    pub run_refused : (q : RunRefusal) → run_refusal (table_of (parts_of bytes)) track k m (length scratch) ≡ RunCheck.Refused q
+    pub run_refused : (q : RunRefusal) → run_refusal (table_of (parts_of bytes)) track k m (length scratch) ≡ Err q
         → (r ≡ answer_at (run_number q) (run_place q)) × (after ≡ scratch)
     unfolding Judged
     run_refused q e =
         let (a, o, s) = allowed in
-        let known = subst
-        (λ (c : RunCheck). outcome Passed c scratch a after
-        (Told (table_of (parts_of bytes)) (rule_of (parts_of bytes)) track k m scratch a after))
-        e
-        (subst
-        (λ (c : Check). outcome c (run_refusal (table_of (parts_of bytes)) track k m (length scratch)) scratch a after
-        (Told (table_of (parts_of bytes)) (rule_of (parts_of bytes)) track k m scratch a after))
-        read o) in
-        (s ∙ ap (λ (x : judge.Answer). answer_at (answer_number x) (answer_place x)) known.0, known.1)
+        let known = rw (read, e) at o in
+        (s ∙ ap judge_answer known.0, known.1)
 
-    module _ (passed : run_refusal (table_of (parts_of bytes)) track k m (length scratch) ≡ RunCheck.Passed) where
+    module _ (passed : run_refusal (table_of (parts_of bytes)) track k m (length scratch) ≡ Ok tt) where
       told : (a : judge.Answer) × Told (table_of (parts_of bytes)) (rule_of (parts_of bytes)) track k m scratch a after
-          × (r ≡ answer_at (answer_number a) (answer_place a))
+          × (r ≡ judge_answer a)
       unfolding Judged
       told =
-          let (a, o, s) = allowed in (
-            a,
-            subst
-                (λ (c : RunCheck). outcome Passed c scratch a after
-                (Told (table_of (parts_of bytes)) (rule_of (parts_of bytes)) track k m scratch a after))
-                passed
-                (subst
-                (λ (c : Check). outcome c (run_refusal (table_of (parts_of bytes)) track k m (length scratch)) scratch a after
-                (Told (table_of (parts_of bytes)) (rule_of (parts_of bytes)) track k m scratch a after))
-                read o),
-            s,
-          )
+          let (a, o, s) = allowed in
+          (a, rw (read, passed) at o, s)
 
       -- demand 2: 1 exactly when the run violates, 0 exactly when it does not; no third answer
       pub violates_is_1 : Violates (table_of (parts_of bytes)) (rule_of (parts_of bytes)) track k m → r ≡ answer_at 1 0
       violates_is_1 v =
           let (a, t, s) = told in
           ⊎_elim
-          (λ p. s ∙ ap (λ (x : judge.Answer). answer_at (answer_number x) (answer_place x)) p.0)
+          (λ p. s ∙ ap (judge_answer) p.0)
           (λ p. absurd (p.1 v)) t.verdict
 
       pub satisfies_is_0 : (Violates (table_of (parts_of bytes)) (rule_of (parts_of bytes)) track k m → ⊥) → r ≡ answer_at 0 0
@@ -92,7 +70,7 @@ module _ (bytes track : List ℕ) (k m : ℕ) (scratch : List ℕ) (r : Answer) 
           let (a, t, s) = told in
           ⊎_elim
           (λ p. absurd (f p.1))
-          (λ p. s ∙ ap (λ (x : judge.Answer). answer_at (answer_number x) (answer_place x)) p.0) t.verdict
+          (λ p. s ∙ ap (judge_answer) p.0) t.verdict
 
       pub 1_is_violates : r.number ≡ 1 → Violates (table_of (parts_of bytes)) (rule_of (parts_of bytes)) track k m
       1_is_violates e =
@@ -101,7 +79,7 @@ module _ (bytes track : List ℕ) (k m : ℕ) (scratch : List ℕ) (r : Answer) 
           (λ p. p.1)
           (λ p.
           let zero_one : ◌≡◌ {A = ℕ} 0 1 =
-          sym (ap (λ (x : Answer). x.number) (s ∙ ap (λ (x : judge.Answer). answer_at (answer_number x) (answer_place x)) p.0)) ∙ e in
+          sym (ap (λ (x : Answer). x.number) (s ∙ ap (judge_answer) p.0)) ∙ e in
           absurd (omega arith))
           t.verdict
 
@@ -137,7 +115,7 @@ module _ (bytes track : List ℕ) (k m : ℕ) (scratch : List ℕ) (r : Answer) 
 
         told_so : (c : RunCheck) → run_refusal (table_of (parts_of bytes)) track k m (length scratch) ≡ c → r.number ≡ 1
             → (k + m ≤ length scratch) × Violates (table_of (parts_of bytes)) (rule_of (parts_of bytes)) track k m
-        told_so (RunCheck.Refused q) refused e =
+        told_so (Err q) refused e =
             absurd (no_row q (sym (ap (λ (x : Answer). x.number) (run_refused q refused).0) ∙ e))
-        told_so RunCheck.Passed passed e =
+        told_so (Ok _) passed e =
             (free_room (free (table_of (parts_of bytes)) track k m (length scratch) passed), 1_is_violates passed e)

@@ -1,12 +1,11 @@
 -- What the exported search promises. `SearchOutcome` is, by name, the whole `ensures` of
 -- `mullodai_search`; each line below speaks of any answer r, with the workspace and the track then left, that it allows. Assumes nothing.
+use Rattle.std.specs.Prelude.{Some, None, Ok, Err}
 use Prim.Native.Nat.{ℕ, ◌+◌, ◌*◌, ◌≤◌, ◌<◌}
-use mathlib.Core.Path.{◌≡◌, refl, sym, ap, subst, ◌∙◌}
-use mathlib.Core.Bool.{Bool, false}
+use mathlib.Core.Path.{◌≡◌, refl, sym, ap, ◌∙◌}
 use mathlib.Core.List.{List, ◌++◌}
 use mathlib.Core.Logic.{◌⊎◌, inl, inr, ⊎_elim, ◌↔◌}
 use native.Mathlib.Omega.{arith}
-use lib.Dec.{ltb}
 use lib.ListN.{length, drop, replicate}
 use borrow.Author.Tests.{lt-ltb, le-ltb}
 use Rattle.meaning.specs.Runs.{Violates, Holds}
@@ -15,11 +14,9 @@ use Rattle.reading.specs.Refusals.{parts_of, refusal}
 use Rattle.reading.specs.Night.{night}
 use Rattle.reading.specs.Answers.{number_of, place_of}
 use Rattle.reading.specs.declared.CaseRefusal.{CaseRefusal}
-use Rattle.reading.specs.declared.Check.{Check}
-use Rattle.reading.specs.declared.Check.TheVariants.{Passed, Refused}
-use Rattle.search.specs.Answers.{number, stem, loop}
-use Rattle.search.specs.Outcome.{Searched, Reads, Searches, Refuses, Decides, workspace_needs, track_needs, cleared}
-use Rattle.search.specs.declared.SearchAnswer.{SearchAnswer}
+use Rattle.search.specs.Answers.{SearchAnswer, number, stem, loop}
+use Rattle.search.specs.Outcome.{Searched, Refuses, Decides, workspace_needs, track_needs, cleared}
+use Rattle.search.specs.declared.SearchRefusal.{SearchRefusal}
 use Rattle.search.proofs.Outcomes.{searched_agree, searched_decides, decides_exactly}
 use Rattle.search.proofs.Night.{night_without, night_violated, night_written, night_short, without_held}
 use Rattle.mullodai.specs.Outcomes.{answer_at, JudgeOutcome, SearchOutcome, search_answer}
@@ -49,46 +46,40 @@ module _ (bytes workspace track : List ℕ) (r : Answer) (workspace' track' : Li
   abbrev pub AsLent : Type 0
   AsLent = (workspace' ≡ workspace) × (track' ≡ track)
 
-  as_refused : (a q : SearchAnswer) → r ≡ search_answer a → Refuses workspace track a workspace' track' q → (r ≡ search_answer q) × AsLent
+  as_refused : (a : SearchAnswer) (q : SearchRefusal) → r ≡ search_answer a → Refuses workspace track a workspace' track' q → (r ≡ search_answer (Err q)) × AsLent
   as_refused a q e f = (e ∙ ap search_answer f.answered, (f.workspace_as_lent, f.track_as_lent))
 
   -- of a refused case: the refusal's number and place, and both buffers as they were lent
-  pub case_refused : (q : CaseRefusal) → refusal bytes ≡ Refused q → (r ≡ answer_at (number_of q) (place_of q)) × AsLent
+  pub case_refused : (q : CaseRefusal) → refusal bytes ≡ Err q → (r ≡ answer_at (number_of q) (place_of q)) × AsLent
   unfolding Searched
   case_refused q e =
       let (a, s, same) = allowed in
-      as_refused a (SearchAnswer.Refused q) same
-      (subst (λ (c : Check). Reads c (parts_of bytes) workspace track a workspace' track') e s)
+      as_refused a (SearchRefusal.Case q) same (rw e at s)
 
   -- of a case that is read: 40 and 6·P where the workspace is shorter, then 41 and 2·P where the track is
-  pub workspace_short : refusal bytes ≡ Passed → length workspace < 6 * places (parts_of bytes)
+  pub workspace_short : refusal bytes ≡ Ok tt → length workspace < 6 * places (parts_of bytes)
       → (r ≡ answer_at 40 (6 * places (parts_of bytes))) × AsLent
   unfolding Searched
   workspace_short e h =
       let (a, s, same) = allowed in
-      as_refused a (SearchAnswer.Workspace (workspace_needs (parts_of bytes))) same
-      (subst
-      (λ (b : Bool). Searches b (ltb (length track) (track_needs (parts_of bytes))) (parts_of bytes) workspace track a workspace' track')
-      (lt-ltb (length workspace) (workspace_needs (parts_of bytes)) h)
-      (subst (λ (c : Check). Reads c (parts_of bytes) workspace track a workspace' track') e s))
+      as_refused a (SearchRefusal.Workspace (workspace_needs (parts_of bytes))) same
+      (rw (e, lt-ltb (length workspace) (workspace_needs (parts_of bytes)) h) at s)
 
-  pub track_short : refusal bytes ≡ Passed → 6 * places (parts_of bytes) ≤ length workspace → length track < 2 * places (parts_of bytes)
+  pub track_short : refusal bytes ≡ Ok tt → 6 * places (parts_of bytes) ≤ length workspace → length track < 2 * places (parts_of bytes)
       → (r ≡ answer_at 41 (2 * places (parts_of bytes))) × AsLent
   unfolding Searched
   track_short e w h =
       let (a, s, same) = allowed in
-      as_refused a (SearchAnswer.Track (track_needs (parts_of bytes))) same
-      (subst
-      (λ (b : Bool). Searches false b (parts_of bytes) workspace track a workspace' track')
-      (lt-ltb (length track) (track_needs (parts_of bytes)) h)
-      (subst
-      (λ (b : Bool). Searches b (ltb (length track) (track_needs (parts_of bytes))) (parts_of bytes) workspace track a workspace' track')
-      (le-ltb (length workspace) (workspace_needs (parts_of bytes)) w)
-      (subst (λ (c : Check). Reads c (parts_of bytes) workspace track a workspace' track') e s)))
+      as_refused a (SearchRefusal.Track (track_needs (parts_of bytes))) same
+      (rw (
+        e,
+        le-ltb (length workspace) (workspace_needs (parts_of bytes)) w,
+        lt-ltb (length track) (track_needs (parts_of bytes)) h,
+      ) at s)
 
 module _ (bytes workspace track : List ℕ) (r : Answer) (workspace' track' : List ℕ)
     (allowed : SearchOutcome bytes workspace track r workspace' track')
-    (read : refusal bytes ≡ Passed)
+    (read : refusal bytes ≡ Ok tt)
     (room : 6 * places (parts_of bytes) ≤ length workspace)
     (track_room : 2 * places (parts_of bytes) ≤ length track) where
   decided : (a : SearchAnswer) × Decides (parts_of bytes) workspace track a workspace' track' × (r ≡ search_answer a)
@@ -109,32 +100,26 @@ module _ (bytes workspace track : List ℕ) (r : Answer) (workspace' track' : Li
   workspace_cleared = let (a, d, e) = decided in go a d
     where
       go : (a : SearchAnswer) → Decides (parts_of bytes) workspace track a workspace' track' → workspace' ≡ cleared (parts_of bytes) workspace
-      go (SearchAnswer.Refused q) d = absurd d
-      go (SearchAnswer.Workspace n) d = absurd d
-      go (SearchAnswer.Track n) d = absurd d
-      go SearchAnswer.Holds d = d.workspace_cleared
-      go (SearchAnswer.Violated k m) d = d.workspace_cleared
+      go (Err q) d = absurd d
+      go (Ok None) d = d.workspace_cleared
+      go (Ok (Some run)) d = d.workspace_cleared
 
   -- after holds the track is untouched
   pub track_untouched : r.number ≡ 0 → track' ≡ track
   track_untouched z = let (a, d, e) = decided in go a d (sym (ap (λ (x : Answer). x.number) e) ∙ z)
     where
       go : (a : SearchAnswer) → Decides (parts_of bytes) workspace track a workspace' track' → number a ≡ 0 → track' ≡ track
-      go (SearchAnswer.Refused q) d n = absurd d
-      go (SearchAnswer.Workspace n) d o = absurd d
-      go (SearchAnswer.Track n) d o = absurd d
-      go SearchAnswer.Holds d n = d.track_untouched
-      go (SearchAnswer.Violated k m) d n = absurd (omega arith)
+      go (Err q) d n = absurd d
+      go (Ok None) d n = d.track_untouched
+      go (Ok (Some run)) d n = absurd (omega arith)
 
   -- otherwise 1, and a run that breaks it is written out, with its k and m
   broken : (a : SearchAnswer) → Decides (parts_of bytes) workspace track a workspace' track'
       → (number a ≡ 0) ⊎ ((number a ≡ 1) × Violates (table_of (parts_of bytes)) (rule_of (parts_of bytes)) track' (stem a) (loop a)
       × (drop (stem a + loop a) track' ≡ drop (stem a + loop a) track))
-  broken (SearchAnswer.Refused q) d = absurd d
-  broken (SearchAnswer.Workspace n) d = absurd d
-  broken (SearchAnswer.Track n) d = absurd d
-  broken SearchAnswer.Holds d = inl refl
-  broken (SearchAnswer.Violated k m) d = inr (refl, d.violates, d.rest_untouched)
+  broken (Err q) d = absurd d
+  broken (Ok None) d = inl refl
+  broken (Ok (Some run)) d = inr (refl, d.violates, d.rest_untouched)
 
   pub else_violated : (r.number ≡ 0 → ⊥)
       → (r.number ≡ 1) × Violates (table_of (parts_of bytes)) (rule_of (parts_of bytes)) track' r.stem r.repeat
@@ -143,12 +128,7 @@ module _ (bytes workspace track : List ℕ) (r : Answer) (workspace' track' : Li
       let (a, d, e) = decided in
       ⊎_elim
       (λ z. absurd (f (ap (λ (x : Answer). x.number) e ∙ z)))
-      (λ b.
-      subst
-      (λ (x : Answer).
-      (x.number ≡ 1) × Violates (table_of (parts_of bytes)) (rule_of (parts_of bytes)) track' x.stem x.repeat
-      × (drop (x.stem + x.repeat) track' ≡ drop (x.stem + x.repeat) track))
-      (sym e) b)
+      (λ b. rw e b)
       (broken a d)
 
   -- and the judge, given that run and a scratch of k+m, says so too
@@ -165,9 +145,7 @@ pub night_is_violated : (workspace track : List ℕ) (r : Answer) (workspace' tr
     → SearchOutcome night workspace track r workspace' track'
     → (r.number ≡ 1) × Violates (table_of (parts_of night)) (rule_of (parts_of night)) track' r.stem r.repeat
 night_is_violated workspace track r workspace' track' w t (a, s, e) =
-    subst
-    (λ (x : Answer). (x.number ≡ 1) × Violates (table_of (parts_of night)) (rule_of (parts_of night)) track' x.stem x.repeat)
-    (sym e) (night_violated workspace track a workspace' track' w t s)
+    rw e (night_violated workspace track a workspace' track' w t s)
 
 -- "or writes no track": a track of zeros does not stay as it was lent
 pub night_is_written : (workspace : List ℕ) (r : Answer) (workspace' track' : List ℕ) → length workspace ≡ 72
@@ -178,7 +156,7 @@ night_is_written workspace r workspace' track' w (a, s, e) = night_written works
 pub night_needs_72 : (workspace track : List ℕ) (r : Answer) (workspace' track' : List ℕ) → length workspace ≡ 71
     → SearchOutcome night workspace track r workspace' track' → (r.number ≡ 40) × (r.place ≡ 72)
 night_needs_72 workspace track r workspace' track' w (a, s, e) =
-    subst (λ (x : Answer). (x.number ≡ 40) × (x.place ≡ 72)) (sym e) (night_short workspace track a workspace' track' w s)
+    rw e (night_short workspace track a workspace' track' w s)
 
 -- "Without edge 0 to 2 … the case holds": "One that says violated to all" is not allowed
 pub night_mended_holds : (workspace track : List ℕ) (r : Answer) (workspace' track' : List ℕ) → length workspace ≡ 72 → length track ≡ 24

@@ -1,19 +1,19 @@
 -- What the state list promises, once more and in one place. `StatesOutcome` is, by name, the whole `ensures` of
 -- `mullodai_states`; each line below speaks of any answer r, and any list after, that it allows. Assumes nothing.
+use Rattle.std.specs.Prelude.{Ok, Err}
 use Prim.Native.Nat.{ℕ, zero, suc, ◌≤◌, ◌<◌}
 use mathlib.Core.Path.{◌≡◌, refl, sym, ap, ◌∙◌}
-use mathlib.Core.Bool.{Bool, true, false}
 use mathlib.Core.List.{List, [], ◌∷◌, ◌++◌}
+use native.Mathlib.Decide.{dec_lt}
 use native.Mathlib.Omega.{arith}
-use lib.Dec.{ltb, lit<}
+use lib.Dec.{lit<}
 use lib.ListN.{length, get_or, drop, get_or-append}
 use lib.Seq.{drop_at, get_or_at}
-use borrow.Author.Tests.{ltb-true, ltb-false, lt-ltb, le-ltb}
+use borrow.Author.Tests.{lt-ltb, le-ltb}
 use Rattle.reading.specs.Refusals.{parts_of, refusal}
 use Rattle.reading.specs.Answers.{number_of, place_of, record_of}
 use Rattle.reading.specs.Night.{night}
 use Rattle.reading.specs.declared.CaseRefusal.{CaseRefusal}
-use Rattle.reading.specs.declared.Check.TheVariants.{Passed, Refused}
 use Rattle.reading.specs.declared.StateRecord.{StateRecord}
 use Rattle.reading.proofs.Examples.{night_passes, night_states}
 use Rattle.mullodai.specs.Outcomes.{StatesOutcome, states_answer, answer_at, records_to, list_after}
@@ -31,32 +31,32 @@ one_states_outcome bytes list r r' after after' o o' =
 getD_records : (states : List ℕ) (n s : ℕ) (d : StateRecord) → s < n → get_or (records_to states n) s d ≡ record_of states s
 unfolding records_to
 getD_records states zero s d h = absurd (omega arith)
-getD_records states (suc n) s d h = go (ltb s n) refl (getD_records states n s d)
+getD_records states (suc n) s d h = go (dec_lt s n) (getD_records states n s d)
   where
-    go : (t : Bool) → ltb s n ≡ t → (s < n → get_or (records_to states n) s d ≡ record_of states s)
+    go : Dec (s < n) → (s < n → get_or (records_to states n) s d ≡ record_of states s)
         → get_or (records_to states n ++ (record_of states n ∷ [])) s d ≡ record_of states s
-    go true e earlier = get_or-append (records_to states n) _ d s (omega (arith, ltb-true s n e, length_records states n)) ∙ earlier (ltb-true s n e)
-    go false e earlier =
-        let last : n ≡ s = omega (arith, ltb-false s n e) in
-        get_or_at (records_to states n) (record_of states n) [] d s (length_records states n ∙ last) ∙ ap (record_of states) last
+    go (yes before) earlier = get_or-append (records_to states n) _ d s (omega (arith, length_records states n)) ∙ earlier before
+    go (no last) earlier =
+        let same : n ≡ s = omega arith in
+        get_or_at (records_to states n) (record_of states n) [] d s (length_records states n ∙ same) ∙ ap (record_of states) same
 
 module _ (bytes : List ℕ) (list : List StateRecord) (r : Answer) (after : List StateRecord) (outcome : StatesOutcome bytes list r after) where
   -- of a refused case: the refusal's number and place, and the list as it was lent
-  pub case_refused : (q : CaseRefusal) → refusal bytes ≡ Refused q → (r ≡ answer_at (number_of q) (place_of q)) × (after ≡ list)
+  pub case_refused : (q : CaseRefusal) → refusal bytes ≡ Err q → (r ≡ answer_at (number_of q) (place_of q)) × (after ≡ list)
   unfolding states_answer
   case_refused q e =
       let answer : r ≡ answer_at (number_of q) (place_of q) = outcome.0 ∙ simp e refl in
       (answer, outcome.1 ∙ untouched r.number (parts_of bytes) list (rw answer (refused_positive q)))
 
   -- of a case that is read, a list shorter than S: 42 and S, and the list as it was lent
-  pub list_short : refusal bytes ≡ Passed → length list < (parts_of bytes).states → (r ≡ answer_at 42 (parts_of bytes).states) × (after ≡ list)
+  pub list_short : refusal bytes ≡ Ok tt → length list < (parts_of bytes).states → (r ≡ answer_at 42 (parts_of bytes).states) × (after ≡ list)
   unfolding states_answer
   list_short e h =
       let answer : r ≡ answer_at 42 (parts_of bytes).states = outcome.0 ∙ simp (e, lt-ltb (length list) (parts_of bytes).states h) refl in
       (answer, outcome.1 ∙ untouched r.number (parts_of bytes) list (rw answer (lit< tt)))
 
   -- a list of S records or more: 0 and S; the first S records are field 02's, and the later ones are as they were lent
-  pub list_filled : refusal bytes ≡ Passed → (parts_of bytes).states ≤ length list
+  pub list_filled : refusal bytes ≡ Ok tt → (parts_of bytes).states ≤ length list
       → (r ≡ answer_at 0 (parts_of bytes).states)
       × (length after ≡ length list)
       × ((s : ℕ) (d : StateRecord) → s < (parts_of bytes).states → get_or after s d ≡ record_of (parts_of bytes).state_list s)

@@ -1,5 +1,6 @@
 -- "A judge with one constant answer breaks demand 2 on M1 and M3": as real cases, with one run each, the promise forces 0 and 1.
 -- By computation: the cases are read, the runs are theirs, and `truth` decides the rule on their paths. Assumes nothing.
+use Rattle.std.specs.Prelude.{Ok}
 use Prim.Native.Nat.{ℕ}
 use mathlib.Core.Path.{◌≡◌, refl}
 use mathlib.Core.List.{List, [], ◌∷◌}
@@ -12,9 +13,7 @@ use Rattle.meaning.proofs.Decided.{truth, truth_tells}
 use Rattle.reading.specs.Lowest.{lowest, any, count}
 use Rattle.reading.specs.Parts.{label_of, flags_of, initial_of, from_of, to_of, has_edge, node_of, operator_from, operators_from, table_of, rule_of}
 use Rattle.reading.specs.Refusals.{length_at, at04, parts_of, in_steps, field_refusal, out_of_range, last_refusal, fields_refusal, bad_state, bad_end, above, not_above, starts_none, unknown, first_limit, second_limit, wrong_byte, states_refusal, edges_refusal, dead_end_refusal, nodes_refusal, temporals_refusal, parts_refusal, refusal}
-use Rattle.reading.specs.declared.Check.TheVariants.{Passed}
 use Rattle.judge.specs.Refusals.{stored_refusal, run_refusal}
-use Rattle.judge.specs.declared.RunCheck.{RunCheck}
 use Rattle.judge.proofs.Passed.{free, free_run}
 use Rattle.mullodai.specs.Outcomes.{answer_at, JudgeOutcome}
 use Rattle.mullodai.specs.declared.Answer.{Answer}
@@ -30,19 +29,19 @@ unfoldable pub m3 : List ℕ
 m3 =
     1 ∷ 2 ∷ 0 ∷ 2 ∷ 1 ∷ 2 ∷ 6 ∷ 0 ∷ 1 ∷ 0 ∷ 1 ∷ 0 ∷ 0 ∷ 0 ∷ 3 ∷ 4 ∷ 0 ∷ 0 ∷ 1 ∷ 1 ∷ 1 ∷ 4 ∷ 6 ∷ 0 ∷ 1 ∷ 0 ∷ 0 ∷ 8 ∷ 0 ∷ 0 ∷ []
 
-m1_read : refusal m1 ≡ Passed
+m1_read : refusal m1 ≡ Ok tt
 unfolding m1 lowest any count label_of flags_of from_of to_of node_of operator_from operators_from length_at at04 parts_of in_steps field_refusal out_of_range last_refusal fields_refusal bad_state bad_end above not_above starts_none unknown first_limit second_limit wrong_byte states_refusal edges_refusal dead_end_refusal nodes_refusal temporals_refusal parts_refusal refusal
 m1_read = refl
 
-m3_read : refusal m3 ≡ Passed
+m3_read : refusal m3 ≡ Ok tt
 unfolding m3 lowest any count label_of flags_of from_of to_of node_of operator_from operators_from length_at at04 parts_of in_steps field_refusal out_of_range last_refusal fields_refusal bad_state bad_end above not_above starts_none unknown first_limit second_limit wrong_byte states_refusal edges_refusal dead_end_refusal nodes_refusal temporals_refusal parts_refusal refusal
 m3_read = refl
 
-m1_run : run_refusal (table_of (parts_of m1)) (0 ∷ []) 0 1 1 ≡ RunCheck.Passed
+m1_run : run_refusal (table_of (parts_of m1)) (0 ∷ []) 0 1 1 ≡ Ok tt
 unfolding m1 lowest any label_of flags_of initial_of from_of to_of has_edge length_at at04 parts_of position stored_refusal run_refusal
 m1_run = refl
 
-m3_run : run_refusal (table_of (parts_of m3)) (0 ∷ 1 ∷ []) 1 1 2 ≡ RunCheck.Passed
+m3_run : run_refusal (table_of (parts_of m3)) (0 ∷ 1 ∷ []) 1 1 2 ≡ Ok tt
 unfolding m3 lowest any label_of flags_of initial_of from_of to_of has_edge length_at at04 parts_of position stored_refusal run_refusal
 m3_run = refl
 

@@ -1,14 +1,13 @@
 // The bench's entries, thin over the crates below. No entry requires anything of its caller. `mullodai_c` exports them for C.
 #![tactic(auto)]
 
-ghost use Rattle.std.specs.Prelude.{◌≡◌, cond, ◌<◌, eqb};
-ghost use Rattle.reading.specs.Refusals.{parts_of, refusal};
-ghost use Rattle.reading.specs.Answers.{record_of};
-ghost use Rattle.reading.specs.declared.Check.{Check};
-ghost use Rattle.mullodai.specs.Outcomes.{StateOutcome, without_record, StatesOutcome, states_answer, answer_at, JudgeOutcome, SearchOutcome, search_answer};
+ghost use Rattle.std.specs.Prelude.{◌≡◌};
+ghost use Rattle.mullodai.specs.Outcomes.{state_told, answer_at, filled_told, judge_answer, search_answer};
+ghost use Rattle.mullodai.specs.Outcomes.{StateOutcome, StatesOutcome, JudgeOutcome, SearchOutcome};
 
-use reading::StateRecord;
-use search::SearchAnswer;
+use judge::{Refusal, Verdict};
+use reading::{StateRecord, StateRefusal};
+use search::{Lasso, SearchRefusal};
 
 // One state of a case: the number of the table, 0 on success; the place; and the record, all 0 on a refusal.
 #[repr(C)]
@@ -19,34 +18,26 @@ pub struct StateAnswer {
     pub state: StateRecord,
 }
 
-// Reads one state of a case.
-pub fn mullodai_state(bytes: &[u8], state: u64) -> StateAnswer
-    ensures { StateOutcome bytes.now state result }
-{
-    match reading::state(bytes, state as usize) {
-        reading::StateAnswer::Refused(r) => no_state(reading::number(r), reading::place(r)),
-        reading::StateAnswer::NoState(states) => no_state(NO_SUCH_STATE, states),
-        reading::StateAnswer::Record(record) => StateAnswer {
-            number: 0,
-            place: 0,
-            state: record,
-        },
-    }
-}
+// What reading one state gave.
+impl From<Result<StateRecord, StateRefusal>> for StateAnswer {
+    ghost from_gives = { λ read answer. answer ≡ state_told read };
 
-const NO_SUCH_STATE: usize = 42;
-
-// A refusal, and a record of zeros.
-fn no_state(number: usize, place: usize) -> StateAnswer
-    ensures { result ≡ without_record number place }
-{
-    StateAnswer {
-        number: number as u64,
-        place: place as u64,
-        state: StateRecord {
-            label: 0,
-            initial: 0,
-        },
+    fn from(read: Result<StateRecord, StateRefusal>) -> StateAnswer {
+        match read {
+            Ok(state) => StateAnswer {
+                number: 0,
+                place: 0,
+                state,
+            },
+            Err(refusal) => StateAnswer {
+                number: refusal.number() as u64,
+                place: refusal.place() as u64,
+                state: StateRecord {
+                    label: 0,
+                    initial: 0,
+                },
+            },
+        }
     }
 }
 
@@ -61,106 +52,103 @@ pub struct Answer {
     pub repeat: u64,
 }
 
-// Fills a lent list with the states of a case. The answer is settled first, and with it how many records are filled, so that
-// the loop has no branch.
+impl Answer {
+    // An answer with no run.
+    fn at(number: usize, place: usize) -> Answer
+        ensures { result ≡ answer_at number place }
+    {
+        Answer {
+            number: number as u64,
+            place: place as u64,
+            stem: 0,
+            repeat: 0,
+        }
+    }
+}
+
+// What filling a list gave: how many records.
+impl From<Result<usize, StateRefusal>> for Answer {
+    ghost from_gives = { λ filled answer. answer ≡ filled_told filled };
+
+    fn from(filled: Result<usize, StateRefusal>) -> Answer {
+        match filled {
+            Ok(records) => Answer::at(0, records),
+            Err(refusal) => Answer::at(refusal.number(), refusal.place()),
+        }
+    }
+}
+
+// What the judge gave.
+impl From<Result<Verdict, Refusal>> for Answer {
+    ghost from_gives = { λ judged answer. answer ≡ judge_answer judged };
+
+    fn from(judged: Result<Verdict, Refusal>) -> Answer {
+        match judged {
+            Ok(verdict) => Answer::at(verdict.number(), 0),
+            Err(refusal) => Answer::at(refusal.number(), refusal.place()),
+        }
+    }
+}
+
+// What the search gave: a run that breaks the rule, or that none does.
+impl From<Result<Option<Lasso>, SearchRefusal>> for Answer {
+    ghost from_gives = { λ found answer. answer ≡ search_answer found };
+
+    fn from(found: Result<Option<Lasso>, SearchRefusal>) -> Answer {
+        match found {
+            Ok(None) => Answer::at(0, 0),
+            Ok(Some(Lasso { stem, repeat })) => Answer {
+                number: 1,
+                place: 0,
+                stem: stem as u64,
+                repeat: repeat as u64,
+            },
+            Err(refusal) => Answer::at(refusal.number(), refusal.place()),
+        }
+    }
+}
+
+// Reads one state of a case.
+#[tactic(auto, unfolding(crate::specs::Outcomes::state_answer))]
+pub fn mullodai_state(bytes: &[u8], state: u64) -> StateAnswer
+    ensures { StateOutcome bytes.now state result }
+{
+    reading::state(bytes, state as usize).into()
+}
+
+// Fills a lent list with the states of a case.
 pub fn mullodai_states(bytes: &[u8], list: &mut [StateRecord]) -> Answer
     ensures { StatesOutcome bytes.now list.old result list.new }
 {
-    let answer = states_answer(bytes, list.len());
-    let filled = records_filled(answer);
-    let mut s = 0;
-    while s < filled {
-        list[s] = record_at(bytes, s);
-        s += 1;
+    fill(bytes, list).into()
+}
+
+// Fills the first records of a list with the S states of a case, and says how many. Nothing is written where the case is refused, or the
+// list is shorter than S: that is the row of a state that is not there.
+fn fill(bytes: &[u8], list: &mut [StateRecord]) -> Result<usize, StateRefusal>
+    ensures { StatesOutcome bytes.now list.old (filled_told result) list.new }
+{
+    let case = reading::admit(bytes)?;
+    let states = case.shape.states;
+    if list.len() < states {
+        return Err(StateRefusal::NoState(states));
     }
-    answer
+    for s in 0..states {
+        list[s] = reading::record_at(case.states(), s);
+    }
+    Ok(states)
 }
 
 // Judges the run of stem k and loop m that the track holds: 0 satisfies, 1 violates.
 pub fn mullodai_judge(bytes: &[u8], track: &[u16], k: u64, m: u64, scratch: &mut [u32]) -> Answer
     ensures { JudgeOutcome bytes.now track.now k m scratch.old result scratch.new }
 {
-    let answer = judge::judge(bytes, track, k, m, scratch);
-    answer_at(judge::number(answer), judge::place(answer))
+    judge::judge(bytes, track, k, m, scratch).into()
 }
 
 // Searches for a run that breaks the case's rule: 0 holds; 1 violated, with the run in the track and its stem and loop.
 pub fn mullodai_search(bytes: &[u8], workspace: &mut [u16], track: &mut [u16]) -> Answer
     ensures { SearchOutcome bytes.now workspace.old track.old result workspace.new track.new }
 {
-    search_answer(search::search(bytes, workspace, track))
-}
-
-const WORKSPACE_TOO_SHORT: usize = 40;
-
-const TRACK_TOO_SHORT: usize = 41;
-
-// The search's answer as a struct.
-fn search_answer(answer: SearchAnswer) -> Answer
-    ensures { result ≡ search_answer answer }
-{
-    match answer {
-        SearchAnswer::Refused(r) => answer_at(reading::number(r), reading::place(r)),
-        SearchAnswer::Workspace(entries) => answer_at(WORKSPACE_TOO_SHORT, entries),
-        SearchAnswer::Track(entries) => answer_at(TRACK_TOO_SHORT, entries),
-        SearchAnswer::Holds => answer_at(0, 0),
-        SearchAnswer::Violated { stem, repeat } => Answer {
-            number: 1,
-            place: 0,
-            stem: stem as u64,
-            repeat: repeat as u64,
-        },
-    }
-}
-
-const LIST_TOO_SHORT: usize = 42;
-// Where field 02's value starts.
-const FIRST_STATE: usize = 8;
-
-// What the state list answers: the case's refusal, 42 where the list is shorter than S, or success with the number of records.
-fn states_answer(bytes: &[u8], room: usize) -> Answer
-    ensures { result ≡ states_answer bytes.now room }
-{
-    match reading::admit(bytes) {
-        reading::Case::Refused(r) => answer_at(reading::number(r), reading::place(r)),
-        reading::Case::Admitted(shape) => {
-            let states = shape.states;
-            if room < states {
-                answer_at(LIST_TOO_SHORT, states)
-            } else {
-                answer_at(0, states)
-            }
-        }
-    }
-}
-
-// An answer with no run.
-fn answer_at(number: usize, place: usize) -> Answer
-    ensures { result ≡ answer_at number place }
-{
-    Answer {
-        number: number as u64,
-        place: place as u64,
-        stem: 0,
-        repeat: 0,
-    }
-}
-
-// How many records go with an answer: none with a refusal.
-fn records_filled(answer: Answer) -> usize
-    ensures { result ≡ cond (eqb answer.number 0) answer.place 0 }
-{
-    if answer.number == 0 {
-        answer.place as usize
-    } else {
-        0
-    }
-}
-
-// One record of a case that is read: the reading under the one-state entry, at field 02.
-fn record_at(bytes: &[u8], s: usize) -> StateRecord
-    requires { (refusal bytes.now ≡ Check.Passed) × (s < (parts_of bytes.now).states) }
-    ensures { result ≡ record_of (parts_of bytes.now).state_list s }
-{
-    reading::record_at(&bytes[FIRST_STATE..], s)
+    search::search(bytes, workspace, track).into()
 }

@@ -1,5 +1,6 @@
 -- From "not refused" to the named facts of `Admitted`, once for all: passing the fields gives the sizes, passing a walk gives
 -- its test at every number. Assumes nothing.
+use Rattle.std.specs.Prelude.{Ok}
 use Prim.Native.Nat.{ℕ, suc, ◌-◌, ◌/◌, ◌^◌, ◌≤◌, ◌<◌}
 use mathlib.Core.Path.{◌≡◌, refl, subst}
 use mathlib.Core.Logic.{◌⊎◌, inl, inr}
@@ -16,18 +17,17 @@ use Rattle.reading.specs.Parts.{label_of, flags_of, edge_count, from_of, to_of, 
 use Rattle.reading.specs.Refusals.{refuse_at, bad_state, bad_end, above, not_above, unknown, first_limit, second_limit, wrong_byte, states_refusal, edges_refusal, nodes_refusal}
 use Rattle.reading.specs.declared.CaseRefusal.{CaseRefusal}
 use Rattle.reading.specs.declared.CaseRefusal.TheVariants.{Bits, End, Order, Operator, Operand}
-use Rattle.reading.specs.declared.Check.TheVariants.{Passed}
 use Rattle.reading.proofs.Lowest.{any_false, count_mono}
 use Rattle.reading.proofs.Fields.{not_refused, and_first, and_second, or_first, or_second}
 
 -- ---- a walk that refuses nothing
 
-pub nowhere : (bad : ℕ → Bool) (n : ℕ) (row : ℕ → CaseRefusal) → refuse_at bad n row ≡ Passed → (j : ℕ) → j < n → bad j ≡ false
+pub nowhere : (bad : ℕ → Bool) (n : ℕ) (row : ℕ → CaseRefusal) → refuse_at bad n row ≡ Ok tt → (j : ℕ) → j < n → bad j ≡ false
 nowhere bad n row e = any_false bad n (not_refused _ _ e)
 
 -- ---- states
 
-module _ (states atoms : ℕ) (list : List ℕ) (passed : states_refusal states atoms list ≡ Passed) (s : ℕ) (h : s < states) where
+module _ (states atoms : ℕ) (list : List ℕ) (passed : states_refusal states atoms list ≡ Ok tt) (s : ℕ) (h : s < states) where
   good : bad_state atoms list s ≡ false
   unfolding states_refusal
   good = nowhere (bad_state atoms list) states Bits passed s h
@@ -49,7 +49,7 @@ no_bit_above label a j h l = rw (div-eq_of_lt (lt_of_lt_of_le h (pow_mono l))) r
 
 -- ---- edges
 
-module _ (states : ℕ) (list : List ℕ) (passed : edges_refusal states list ≡ Passed) (e : ℕ) (h : e < edge_count list) where
+module _ (states : ℕ) (list : List ℕ) (passed : edges_refusal states list ≡ Ok tt) (e : ℕ) (h : e < edge_count list) where
   good_edge : (bad_end states list e || not_above list e) ≡ false
   unfolding edges_refusal
   good_edge = nowhere (λ e. bad_end states list e || not_above list e) (edge_count list) (λ e. cond (bad_end states list e) (End e) (Order e)) passed e h
@@ -109,7 +109,7 @@ second_limit_unused : (o n : ℕ) → operands o ≤ 1 → second_limit o n ≡ 
 unfolding second_limit
 second_limit_unused o n h = rw (lt-leb 2 (operands o) (omega arith)) refl
 
-module _ (atoms : ℕ) (list : List ℕ) (passed : nodes_refusal atoms list ≡ Passed) (n : ℕ) (h : n < node_count list) where
+module _ (atoms : ℕ) (list : List ℕ) (passed : nodes_refusal atoms list ≡ Ok tt) (n : ℕ) (h : n < node_count list) where
   good_node : (unknown list n || wrong_byte atoms list n) ≡ false
   unfolding nodes_refusal
   good_node = nowhere (λ n. unknown list n || wrong_byte atoms list n) (node_count list) (λ n. cond (unknown list n) (Operator n) (Operand n)) passed n h

@@ -1,5 +1,6 @@
 -- What passing the rows of a field tells: its head, its tag, its length and its value are there and right; and what passing
 -- all of 10 to 14 tells of the four fields, as one record. Assumes nothing.
+use Rattle.std.specs.Prelude.{Ok, Err}
 use Prim.Native.Nat.{ℕ, ◌+◌, ◌*◌, ◌%◌, ◌≤◌, ◌<◌}
 use mathlib.Core.Path.{◌≡◌, refl}
 use mathlib.Core.Bool.{Bool, true, false, not, ◌&&◌, ◌||◌, true≢false, false≢true}
@@ -11,23 +12,22 @@ use borrow.Author.Tests.{ltb-false, leb-true, eqb-true, not-false}
 use Rattle.reading.specs.Refusals.{◌then◌, refuse_if, length_at, at02, at03, at04, in_steps, field_refusal, out_of_range, last_refusal, fields_refusal}
 use Rattle.reading.specs.declared.CaseRefusal.{CaseRefusal}
 use Rattle.reading.specs.declared.CaseRefusal.TheVariants.{Range}
-use Rattle.reading.specs.declared.Check.{Check}
-use Rattle.reading.specs.declared.Check.TheVariants.{Passed, Refused}
+use Rattle.reading.specs.Refusals.{Check}
 
 -- ---- rows, one after the other
 
-pub refused_not_passed : (r : CaseRefusal) → Refused r ≡ Passed → ⊥
+pub refused_not_passed : (r : CaseRefusal) → ◌≡◌ {A = Check} (Err r) (Ok tt) → ⊥
 refused_not_passed r e = let z : ◌≡◌ {A = ℕ} 0 1 = cc in omega arith
 
-pub then_first : (a b : Check) → (a then b) ≡ Passed → a ≡ Passed
-then_first (Refused r) b e = e
-then_first Passed b e = refl
+pub then_first : (a b : Check) → (a then b) ≡ Ok tt → a ≡ Ok tt
+then_first (Err r) b e = e
+then_first (Ok _) b e = refl
 
-pub then_later : (a b : Check) → (a then b) ≡ Passed → b ≡ Passed
-then_later (Refused r) b e = absurd (refused_not_passed r e)
-then_later Passed b e = e
+pub then_later : (a b : Check) → (a then b) ≡ Ok tt → b ≡ Ok tt
+then_later (Err r) b e = absurd (refused_not_passed r e)
+then_later (Ok _) b e = e
 
-pub not_refused : (t : Bool) (r : CaseRefusal) → refuse_if t r ≡ Passed → t ≡ false
+pub not_refused : (t : Bool) (r : CaseRefusal) → refuse_if t r ≡ Ok tt → t ≡ false
 not_refused true r e = absurd (refused_not_passed r e)
 not_refused false r e = refl
 
@@ -82,7 +82,7 @@ pub record Field (bytes : List ℕ) (at step least most : ℕ) : Type 0 where
   pub size : InSteps step least most (length_at bytes at)
   pub value : at + 3 + length_at bytes at ≤ length bytes
 
-pub field_passed : (bytes : List ℕ) (at tag step least most : ℕ) → field_refusal bytes at tag (in_steps step least most) ≡ Passed
+pub field_passed : (bytes : List ℕ) (at tag step least most : ℕ) → field_refusal bytes at tag (in_steps step least most) ≡ Ok tt
     → Field bytes at step least most
 unfolding field_refusal
 field_passed bytes at tag step least most e =
@@ -95,7 +95,7 @@ field_passed bytes at tag step least most e =
     }
 
 -- field 01 is there: five bytes
-pub first_there : (bytes : List ℕ) → field_refusal bytes 0 1 (in_steps 1 2 2) ≡ Passed → (i : ℕ) → i < 5 → i < length bytes
+pub first_there : (bytes : List ℕ) → field_refusal bytes 0 1 (in_steps 1 2 2) ≡ Ok tt → (i : ℕ) → i < 5 → i < length bytes
 first_there bytes e i h = let f = field_passed bytes 0 1 1 2 2 e in omega (arith, f.value, f.size.above)
 
 -- ---- all four
@@ -107,7 +107,7 @@ pub record Fields (bytes : List ℕ) : Type 0 where
   pub fourth : Field bytes (at04 bytes) 3 3 96
   pub ends : length bytes ≤ at04 bytes + 3 + length_at bytes (at04 bytes)
 
-pub fields_passed : (bytes : List ℕ) → fields_refusal bytes ≡ Passed → Fields bytes
+pub fields_passed : (bytes : List ℕ) → fields_refusal bytes ≡ Ok tt → Fields bytes
 unfolding fields_refusal last_refusal
 fields_passed bytes e =
     let e₁ = then_later (field_refusal bytes 0 1 (in_steps 1 2 2)) _ e in

@@ -1,5 +1,6 @@
 -- What is known of a case that was read: its parts are `Admitted`, and its shape is theirs. From the rows' facts, by the order
 -- in which the rows stand. Assumes nothing.
+use Rattle.std.specs.Prelude.{Ok, Err}
 use Prim.Native.Nat.{ℕ, ◌*◌, ◌≤◌}
 use mathlib.Core.Path.{◌≡◌, refl, ap}
 use mathlib.Core.List.{List}
@@ -11,10 +12,8 @@ use borrow.Author.Tests.{ltb-false}
 use Rattle.reading.specs.Parts.{Parts, edge_count, node_count, temporals, eventualities}
 use Rattle.reading.specs.Refusals.{length_at, at03, at04, parts_of, states_refusal, edges_refusal, dead_end_refusal, nodes_refusal, temporals_refusal, parts_refusal, fields_refusal, refusal, shape_of, read_as, case_of}
 use Rattle.reading.proofs.Admitted.{Admitted}
-use Rattle.reading.specs.declared.Check.{Check}
-use Rattle.reading.specs.declared.Check.TheVariants.{Passed, Refused}
+use Rattle.reading.specs.Refusals.{Check}
 use Rattle.reading.specs.declared.Shape.{Shape}
-use Rattle.reading.specs.declared.Case.{Case}
 use Rattle.reading.proofs.Fields.{then_first, then_later, not_refused, Fields, fields_passed}
 use Rattle.reading.proofs.Facts.{label_low, flag_low, no_bit_above, from_below, to_below, in_order, edges_rise, known_operator, first_operand_lower, second_operand_lower, atom_below, first_zero, second_zero, eventualities_temporal}
 
@@ -40,21 +39,21 @@ sizes bytes f =
 
 -- ---- admitted
 
-pub passed_fields : (bytes : List ℕ) → refusal bytes ≡ Passed → fields_refusal bytes ≡ Passed
+pub passed_fields : (bytes : List ℕ) → refusal bytes ≡ Ok tt → fields_refusal bytes ≡ Ok tt
 unfolding refusal
 passed_fields bytes e = then_first _ _ e
 
-pub passed_parts : (bytes : List ℕ) → refusal bytes ≡ Passed → parts_refusal (parts_of bytes) ≡ Passed
+pub passed_parts : (bytes : List ℕ) → refusal bytes ≡ Ok tt → parts_refusal (parts_of bytes) ≡ Ok tt
 unfolding refusal
 passed_parts bytes e = then_later (fields_refusal bytes) _ e
 
 pub record Rows (p : Parts) : Type 0 where
-  pub by_states : states_refusal p.states p.atoms p.state_list ≡ Passed
-  pub by_edges : edges_refusal p.states p.edge_list ≡ Passed
-  pub by_nodes : nodes_refusal p.atoms p.node_list ≡ Passed
-  pub by_temporals : temporals_refusal p.node_list ≡ Passed
+  pub by_states : states_refusal p.states p.atoms p.state_list ≡ Ok tt
+  pub by_edges : edges_refusal p.states p.edge_list ≡ Ok tt
+  pub by_nodes : nodes_refusal p.atoms p.node_list ≡ Ok tt
+  pub by_temporals : temporals_refusal p.node_list ≡ Ok tt
 
-pub rows_passed : (p : Parts) → parts_refusal p ≡ Passed → Rows p
+pub rows_passed : (p : Parts) → parts_refusal p ≡ Ok tt → Rows p
 unfolding parts_refusal
 rows_passed p e =
     let e₁ = then_later (states_refusal p.states p.atoms p.state_list) _ e in
@@ -67,11 +66,11 @@ rows_passed p e =
       by_temporals = then_later (nodes_refusal p.atoms p.node_list) _ e₃;
     }
 
-temporals_few : (p : Parts) → temporals_refusal p.node_list ≡ Passed → temporals p ≤ 4
+temporals_few : (p : Parts) → temporals_refusal p.node_list ≡ Ok tt → temporals p ≤ 4
 unfolding temporals_refusal
 temporals_few p e = ltb-false _ _ (not_refused _ _ e)
 
-module _ (bytes : List ℕ) (e : refusal bytes ≡ Passed) where
+module _ (bytes : List ℕ) (e : refusal bytes ≡ Ok tt) where
   fields : Fields bytes
   fields = fields_passed bytes (passed_fields bytes e)
 
@@ -117,7 +116,7 @@ module _ (bytes : List ℕ) (e : refusal bytes ≡ Passed) where
 -- ---- what a caller of `admit` knows once it has the shape
 
 pub record Known (bytes : List ℕ) (shape : Shape) : Type 0 where
-  pub passed : refusal bytes ≡ Passed
+  pub passed : refusal bytes ≡ Ok tt
   pub facts : Admitted (parts_of bytes)
   pub states_is : shape.states ≡ (parts_of bytes).states
   pub atoms_is : shape.atoms ≡ (parts_of bytes).atoms
@@ -126,13 +125,13 @@ pub record Known (bytes : List ℕ) (shape : Shape) : Type 0 where
   pub temporals_is : shape.temporals ≡ temporals (parts_of bytes)
   pub eventualities_is : shape.eventualities ≡ eventualities (parts_of bytes)
 
-pub known : (bytes : List ℕ) (shape : Shape) → case_of bytes ≡ Case.Admitted shape → Known bytes shape
+pub known : (bytes : List ℕ) (shape : Shape) → case_of bytes ≡ Ok shape → Known bytes shape
 unfolding case_of shape_of
 known bytes shape e = go (refusal bytes) refl e
   where
-    go : (c : Check) → refusal bytes ≡ c → read_as c (shape_of (parts_of bytes)) ≡ Case.Admitted shape → Known bytes shape
-    go (Refused r) p q = absurd (let z : ◌≡◌ {A = ℕ} 0 1 = cc in omega arith)
-    go Passed p q =
+    go : (c : Check) → refusal bytes ≡ c → read_as c (shape_of (parts_of bytes)) ≡ Ok shape → Known bytes shape
+    go (Err r) p q = absurd (let z : ◌≡◌ {A = ℕ} 0 1 = cc in omega arith)
+    go (Ok _) p q =
         let same : shape ≡ shape_of (parts_of bytes) = cc in
         record {
           passed = p;

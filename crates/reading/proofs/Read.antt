@@ -1,4 +1,5 @@
 -- The answers of `admit` and `state`, from what their callees gave. Assumes nothing.
+use Rattle.std.specs.Prelude.{Ok, Err}
 use Prim.Native.Nat.{ℕ, ◌≤◌, ◌<◌}
 use mathlib.Core.Path.{◌≡◌, refl}
 use mathlib.Core.List.{List}
@@ -8,19 +9,17 @@ use Rattle.reading.specs.Parts.{Parts, edge_count, node_count, temporals, eventu
 use Rattle.reading.specs.Refusals.{parts_of, parts_refusal, refusal, shape_of, read_as, case_of}
 use Rattle.reading.specs.Answers.{record_of, state_of}
 use Rattle.reading.specs.declared.CaseRefusal.{CaseRefusal}
-use Rattle.reading.specs.declared.Check.{Check}
-use Rattle.reading.specs.declared.Check.TheVariants.{Passed, Refused}
+use Rattle.reading.specs.Refusals.{Check}
 use Rattle.reading.specs.declared.Shape.{Shape}
-use Rattle.reading.specs.declared.Case.{Case}
-use Rattle.reading.specs.declared.StateAnswer.{StateAnswer}
+use Rattle.reading.specs.declared.StateRefusal.{StateRefusal}
 use Rattle.reading.proofs.Known.{known}
 
 module _ (p q : Parts) (same : p ≡ q) where
-  pub read_refused : (r : CaseRefusal) → parts_refusal p ≡ Refused r → Case.Refused r ≡ read_as (parts_refusal q) (shape_of q)
+  pub read_refused : (r : CaseRefusal) → parts_refusal p ≡ Err r → Err r ≡ read_as (parts_refusal q) (shape_of q)
   read_refused r e = simp (← same, e)
 
-  pub read_passed : (t e : ℕ) → t ≡ temporals p → e ≡ eventualities p → parts_refusal p ≡ Passed
-      → Case.Admitted
+  pub read_passed : (t e : ℕ) → t ≡ temporals p → e ≡ eventualities p → parts_refusal p ≡ Ok tt
+      → Ok
       (record {
         states = p.states;
         atoms = p.atoms;
@@ -34,26 +33,26 @@ module _ (p q : Parts) (same : p ≡ q) where
   read_passed t e ts es h = simp (← same, h, ts, es)
 
 -- a case that is refused is refused as the table says
-pub case_refused : (bytes : List ℕ) (r : CaseRefusal) → case_of bytes ≡ Case.Refused r → refusal bytes ≡ Refused r
+pub case_refused : (bytes : List ℕ) (r : CaseRefusal) → case_of bytes ≡ Err r → refusal bytes ≡ Err r
 unfolding case_of
 case_refused bytes r e = go (refusal bytes) e
   where
-    go : (c : Check) → read_as c (shape_of (parts_of bytes)) ≡ Case.Refused r → c ≡ Refused r
-    go (Refused r') q = cc
-    go Passed q = absurd (let z : ◌≡◌ {A = ℕ} 0 1 = cc in omega arith)
+    go : (c : Check) → read_as c (shape_of (parts_of bytes)) ≡ Err r → c ≡ Err r
+    go (Err r') q = cc
+    go (Ok _) q = absurd (let z : ◌≡◌ {A = ℕ} 0 1 = cc in omega arith)
 
-pub state_refused : (bytes : List ℕ) (s : ℕ) (r : CaseRefusal) → case_of bytes ≡ Case.Refused r → StateAnswer.Refused r ≡ state_of bytes s
+pub state_refused : (bytes : List ℕ) (s : ℕ) (r : CaseRefusal) → case_of bytes ≡ Err r → Err (StateRefusal.Case r) ≡ state_of bytes s
 unfolding state_of
 state_refused bytes s r e = rw (case_refused bytes r e) refl
 
-module _ (bytes : List ℕ) (s : ℕ) (shape : Shape) (e : case_of bytes ≡ Case.Admitted shape) where
-  pub state_there : s < shape.states → StateAnswer.Record (record_of (parts_of bytes).state_list s) ≡ state_of bytes s
+module _ (bytes : List ℕ) (s : ℕ) (shape : Shape) (e : case_of bytes ≡ Ok shape) where
+  pub state_there : s < shape.states → Ok (record_of (parts_of bytes).state_list s) ≡ state_of bytes s
   unfolding state_of
   state_there h =
       let k = known bytes shape e in
       simp (k.passed, lt-ltb s (parts_of bytes).states (omega (arith, k.states_is)))
 
-  pub state_none : shape.states ≤ s → StateAnswer.NoState shape.states ≡ state_of bytes s
+  pub state_none : shape.states ≤ s → Err (StateRefusal.NoState shape.states) ≡ state_of bytes s
   unfolding state_of
   state_none h =
       let k = known bytes shape e in

@@ -1,18 +1,18 @@
 -- The rows of the table as a walk meets them: a state with an edge is no dead end, one with none is; a walk that ends at r
 -- gives its row's refusal at r, or none. Assumes nothing.
-use Prim.Native.Nat.{ℕ, ◌≤◌, ◌<◌}
-use mathlib.Core.Path.{◌≡◌, sym, ap, ◌∙◌}
+use Rattle.std.specs.Prelude.{Ok, Err}
+use Prim.Native.Nat.{ℕ, ◌<◌}
+use mathlib.Core.Path.{◌≡◌, refl, sym, ap, ◌∙◌}
 use mathlib.Core.Bool.{Bool, true, false, cond, not, ◌||◌}
 use mathlib.Core.List.{List}
 use lib.Dec.{eqb}
-use borrow.Author.Tests.{lt-ltb, le-ltb, eq-eqb}
-use Rattle.reading.specs.Lowest.{lowest, any}
-use Rattle.reading.specs.Parts.{edge_count, from_of, node_count}
-use Rattle.reading.specs.Refusals.{refuse_at, starts_none, bad_end, not_above, unknown, wrong_byte, edges_refusal, nodes_refusal}
+use borrow.Author.Tests.{eq-eqb}
+use Rattle.reading.specs.Lowest.{lowest}
+use Rattle.reading.specs.Parts.{edge_count, from_of}
+use Rattle.reading.specs.Refusals.{refuse_at, starts_none}
 use Rattle.reading.specs.declared.CaseRefusal.{CaseRefusal}
-use Rattle.reading.specs.declared.CaseRefusal.TheVariants.{End, Order, Operator, Operand}
-use Rattle.reading.specs.declared.Check.TheVariants.{Passed, Refused}
-use Rattle.reading.proofs.Lowest.{any_found, any_none}
+use native.Mathlib.Omega.{arith}
+use Rattle.reading.proofs.Lowest.{lowest_is, any_found, any_none}
 
 pub starts_one : (list : List ℕ) (s e : ℕ) → e < edge_count list → from_of list e ≡ s → starts_none list s ≡ false
 unfolding starts_none
@@ -22,39 +22,38 @@ pub starts_none_lem : (list : List ℕ) (s : ℕ) → ((e : ℕ) → e < edge_co
 unfolding starts_none
 starts_none_lem list s h = ap not (any_none _ _ h)
 
-module _ (bad : ℕ → Bool) (n : ℕ) (row : ℕ → CaseRefusal) (r : ℕ) (found : r ≡ lowest bad n) where
-  pub refused_at : r < n → Refused (row r) ≡ refuse_at bad n row
-  unfolding any
-  refused_at h = simp (← found, lt-ltb r n h)
+module _ (bad : ℕ → Bool) (n : ℕ) (row : ℕ → CaseRefusal) where
+  -- a walk that passed every number below r and stops there, since it is bad
+  pub refused_at : (r : ℕ) → r < n → ((j : ℕ) → j < r → bad j ≡ false) → bad r ≡ true → Err (row r) ≡ refuse_at bad n row
+  refused_at r h passed found =
+      let there : r ≡ lowest bad n = lowest_is bad n r (omega arith) passed (λ _. found) in
+      simp (any_found bad n r h found, ← there)
 
-  pub none_refused : n ≤ r → Passed ≡ refuse_at bad n row
-  unfolding any
-  none_refused h = simp (← found, le-ltb r n h)
+  -- a walk that passed them all
+  pub none_refused : ((j : ℕ) → j < n → bad j ≡ false) → Ok tt ≡ refuse_at bad n row
+  none_refused passed = simp (any_none bad n passed)
 
--- 21 or 22 at edge r, and neither at any edge
-module _ (states : ℕ) (list : List ℕ) (r : ℕ) (found : r ≡ lowest (λ e. bad_end states list e || not_above list e) (edge_count list)) where
-  pub refused_end : r < edge_count list → bad_end states list r ≡ true → Refused (End r) ≡ edges_refusal states list
-  unfolding edges_refusal
-  refused_end h b = ap (λ (t : Bool). Refused (cond t (End r) (Order r))) (sym b) ∙ refused_at _ _ (λ e. cond (bad_end states list e) (End e) (Order e)) r found h
+-- what a test of two gives
+either_first : (a b : Bool) → a ≡ true → (a || b) ≡ true
+either_first a b e = rw e refl
 
-  pub refused_order : r < edge_count list → bad_end states list r ≡ false → Refused (Order r) ≡ edges_refusal states list
-  unfolding edges_refusal
-  refused_order h b = ap (λ (t : Bool). Refused (cond t (End r) (Order r))) (sym b) ∙ refused_at _ _ (λ e. cond (bad_end states list e) (End e) (Order e)) r found h
+either_second : (a b : Bool) → b ≡ true → (a || b) ≡ true
+either_second true b e = refl
+either_second false b e = e
 
-  pub no_edge_refused : edge_count list ≤ r → Passed ≡ edges_refusal states list
-  unfolding edges_refusal
-  no_edge_refused h = none_refused _ _ (λ e. cond (bad_end states list e) (End e) (Order e)) r found h
+pub neither : (a b : Bool) → a ≡ false → b ≡ false → (a || b) ≡ false
+neither a b e f = rw (e, f) refl
 
--- 30 or 31 at node r, and neither at any node
-module _ (atoms : ℕ) (list : List ℕ) (r : ℕ) (found : r ≡ lowest (λ n. unknown list n || wrong_byte atoms list n) (node_count list)) where
-  pub refused_operator : r < node_count list → unknown list r ≡ true → Refused (Operator r) ≡ nodes_refusal atoms list
-  unfolding nodes_refusal
-  refused_operator h b = ap (λ (t : Bool). Refused (cond t (Operator r) (Operand r))) (sym b) ∙ refused_at _ _ (λ n. cond (unknown list n) (Operator n) (Operand n)) r found h
+-- 21 before 22 of one edge, and 30 before 31 of one node: the first of two tests gives its row, the second its own
+module _ (first second : ℕ → Bool) (n : ℕ) (one two : ℕ → CaseRefusal) (r : ℕ) (h : r < n)
+    (passed : (j : ℕ) → j < r → (first j || second j) ≡ false) where
+  pub refused_first : first r ≡ true → Err (one r) ≡ refuse_at (λ j. first j || second j) n (λ j. cond (first j) (one j) (two j))
+  refused_first e =
+      ap (λ (t : Bool). Err (cond t (one r) (two r))) (sym e)
+      ∙ refused_at _ _ (λ j. cond (first j) (one j) (two j)) r h passed (either_first _ _ e)
 
-  pub refused_operand : r < node_count list → unknown list r ≡ false → Refused (Operand r) ≡ nodes_refusal atoms list
-  unfolding nodes_refusal
-  refused_operand h b = ap (λ (t : Bool). Refused (cond t (Operator r) (Operand r))) (sym b) ∙ refused_at _ _ (λ n. cond (unknown list n) (Operator n) (Operand n)) r found h
-
-  pub no_node_refused : node_count list ≤ r → Passed ≡ nodes_refusal atoms list
-  unfolding nodes_refusal
-  no_node_refused h = none_refused _ _ (λ n. cond (unknown list n) (Operator n) (Operand n)) r found h
+  pub refused_second : first r ≡ false → second r ≡ true
+      → Err (two r) ≡ refuse_at (λ j. first j || second j) n (λ j. cond (first j) (one j) (two j))
+  refused_second e f =
+      ap (λ (t : Bool). Err (cond t (one r) (two r))) (sym e)
+      ∙ refused_at _ _ (λ j. cond (first j) (one j) (two j)) r h passed (either_second _ _ f)

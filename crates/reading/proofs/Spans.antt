@@ -1,5 +1,6 @@
 -- Where the parts lie: each is the bytes between two offsets, and in an admitted case the offsets are sums of the shape's
 -- numbers. Assumes nothing.
+use Rattle.std.specs.Prelude.{Ok}
 use Prim.Native.Nat.{ℕ, ◌+◌, ◌*◌, ◌-◌, ◌≤◌}
 use mathlib.Core.Path.{◌≡◌, refl, sym, ap₂, ◌∙◌}
 use mathlib.Core.List.{List}
@@ -7,9 +8,7 @@ use native.Mathlib.Omega.{arith}
 use lib.ListN.{length, get_or, take, drop}
 use Rattle.reading.specs.Parts.{Parts}
 use Rattle.reading.specs.Refusals.{length_at, at03, at04, parts_of, fields_refusal, case_of}
-use Rattle.reading.specs.declared.Check.TheVariants.{Passed}
 use Rattle.reading.specs.declared.Shape.{Shape}
-use Rattle.reading.specs.declared.Case.{Case}
 use Rattle.reading.proofs.Fields.{fields_passed}
 use Rattle.reading.proofs.Known.{sizes, passed_fields, known}
 
@@ -43,7 +42,7 @@ at04_is : (bytes : List ℕ) → at04 bytes ≡ 11 + 3 * get_or bytes 3 0 + leng
 unfolding at04
 at04_is bytes = omega arith
 
-pub offsets : (bytes : List ℕ) → fields_refusal bytes ≡ Passed → Offsets bytes
+pub offsets : (bytes : List ℕ) → fields_refusal bytes ≡ Ok tt → Offsets bytes
 offsets bytes e =
     let f = fields_passed bytes e in
     record {
@@ -71,7 +70,7 @@ second_is : (bytes : List ℕ) → (parts_of bytes).atoms ≡ get_or bytes 4 0
 unfolding parts_of
 second_is bytes = refl
 
-pub spans : (bytes : List ℕ) (shape : Shape) → case_of bytes ≡ Case.Admitted shape → Spans bytes shape
+pub spans : (bytes : List ℕ) (shape : Shape) → case_of bytes ≡ Ok shape → Spans bytes shape
 spans bytes shape e =
     let k = known bytes shape e in
     let p = passed_fields bytes k.passed in

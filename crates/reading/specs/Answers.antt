@@ -1,13 +1,11 @@
 -- The paper's number and place of each refusal, and the reading one state at a time.
-use Rattle.std.specs.Prelude.{ℕ, cond, List, ltb}
+use Rattle.std.specs.Prelude.{ℕ, cond, List, ltb, Result, Ok, Err}
 use Rattle.reading.specs.Parts.{Parts, label_of, flags_of}
-use Rattle.reading.specs.Refusals.{parts_of, refusal}
+use Rattle.reading.specs.Refusals.{Check, parts_of, refusal}
 use Rattle.reading.specs.declared.CaseRefusal.{CaseRefusal}
 use Rattle.reading.specs.declared.CaseRefusal.TheVariants.{Short, Tag, Length, Range, Rest, Bits, End, Order, DeadEnd, Operator, Operand, Temporals}
-use Rattle.reading.specs.declared.Check.{Check}
-use Rattle.reading.specs.declared.Check.TheVariants.{Passed, Refused}
 use Rattle.reading.specs.declared.StateRecord.{StateRecord}
-use Rattle.reading.specs.declared.StateAnswer.{StateAnswer}
+use Rattle.reading.specs.declared.StateRefusal.{StateRefusal}
 
 -- the row of the table
 abbrev pub number_of : CaseRefusal → ℕ
@@ -44,20 +42,18 @@ unfoldable pub record_of : List ℕ → ℕ → StateRecord
 record_of states s = record { label = label_of states s; initial = flags_of states s }
 
 -- "one state at a time: answer 0 and the record, or a refusal and no record"; the state's number is tested last
-abbrev pub answer_of : Check → Parts → ℕ → StateAnswer
-answer_of (Refused r) p s = StateAnswer.Refused r
-answer_of Passed p s = cond (ltb s p.states) (StateAnswer.Record (record_of p.state_list s)) (StateAnswer.NoState p.states)
+abbrev pub answer_of : Check → Parts → ℕ → Result StateRecord StateRefusal
+answer_of (Err r) p s = Err (StateRefusal.Case r)
+answer_of (Ok _) p s = cond (ltb s p.states) (Ok (record_of p.state_list s)) (Err (StateRefusal.NoState p.states))
 
-unfoldable pub state_of : List ℕ → ℕ → StateAnswer
+unfoldable pub state_of : List ℕ → ℕ → Result StateRecord StateRefusal
 state_of bytes s = answer_of (refusal bytes) (parts_of bytes) s
 
--- "Answer 0" with place 0, the case's refusal, or 42 with S
-abbrev pub state_number : StateAnswer → ℕ
-state_number (StateAnswer.Refused r) = number_of r
-state_number (StateAnswer.NoState s) = 42
-state_number (StateAnswer.Record r) = 0
+-- the case's refusal, or 42 with S
+abbrev pub state_number : StateRefusal → ℕ
+state_number (StateRefusal.Case r) = number_of r
+state_number (StateRefusal.NoState s) = 42
 
-abbrev pub state_place : StateAnswer → ℕ
-state_place (StateAnswer.Refused r) = place_of r
-state_place (StateAnswer.NoState s) = s
-state_place (StateAnswer.Record r) = 0
+abbrev pub state_place : StateRefusal → ℕ
+state_place (StateRefusal.Case r) = place_of r
+state_place (StateRefusal.NoState s) = s

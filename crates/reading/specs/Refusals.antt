@@ -1,24 +1,25 @@
 -- The format of a case, and "When the bench says no", rows 10 to 32 in their order.
-use Rattle.std.specs.Prelude.{ℕ, ◌+◌, ◌*◌, ◌-◌, ◌/◌, ◌%◌, ◌^◌, Bool, true, false, cond, not, ◌&&◌, ◌||◌, List, leb, ltb, eqb, length, get_or, take, drop}
+use Rattle.std.specs.Prelude.{ℕ, ◌+◌, ◌*◌, ◌-◌, ◌/◌, ◌%◌, ◌^◌, Bool, true, false, cond, not, ◌&&◌, ◌||◌, List, leb, ltb, eqb, length, get_or, take, drop, ⊤, Result, Ok, Err}
 use Rattle.meaning.specs.Laws.{operands}
 use Rattle.reading.specs.Lowest.{lowest, any}
 use Rattle.reading.specs.Parts.{Parts, label_of, flags_of, edge_count, from_of, to_of, node_count, node_of, operators_from, temporals, eventualities}
 use Rattle.reading.specs.declared.CaseRefusal.{CaseRefusal}
 use Rattle.reading.specs.declared.CaseRefusal.TheVariants.{Short, Tag, Length, Range, Rest, Bits, End, Order, DeadEnd, Operator, Operand, Temporals}
-use Rattle.reading.specs.declared.Check.{Check}
-use Rattle.reading.specs.declared.Check.TheVariants.{Passed, Refused}
 use Rattle.reading.specs.declared.Shape.{Shape}
-use Rattle.reading.specs.declared.Case.{Case}
+
+-- what a row, or several in their order, say of a case: nothing, or a refusal
+abbrev pub Check : Type 0
+Check = Result ⊤ CaseRefusal
 
 -- what the first row refuses; where it refuses nothing, what the later ones say
 infixr 20 ◌then◌
 abbrev pub ◌then◌ : Check → Check → Check
-Refused r then later = Refused r
-Passed then later = later
+Err r then later = Err r
+(Ok _) then later = later
 
 abbrev pub refuse_if : Bool → CaseRefusal → Check
-refuse_if true r = Refused r
-refuse_if false r = Passed
+refuse_if true r = Err r
+refuse_if false r = Ok tt
 
 -- "Always the lowest place": the row's refusal at the lowest bad number below n
 abbrev pub refuse_at : (ℕ → Bool) → ℕ → (ℕ → CaseRefusal) → Check
@@ -164,9 +165,9 @@ shape_of p =
     }
 
 -- what reading a case gives: the first refusal, or the sizes
-abbrev pub read_as : Check → Shape → Case
-read_as (Refused r) shape = Case.Refused r
-read_as Passed shape = Case.Admitted shape
+abbrev pub read_as : Check → Shape → Result Shape CaseRefusal
+read_as (Err r) shape = Err r
+read_as (Ok _) shape = Ok shape
 
-unfoldable pub case_of : List ℕ → Case
+unfoldable pub case_of : List ℕ → Result Shape CaseRefusal
 case_of bytes = read_as (refusal bytes) (shape_of (parts_of bytes))

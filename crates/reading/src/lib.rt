@@ -2,17 +2,17 @@
 // admitted case. Walks and accessors take a part as a slice.
 #![tactic(auto)]
 
-ghost use Rattle.std.specs.Prelude.{◌≡◌, ◌+◌, ◌*◌, ◌<◌, ◌/◌, length};
+ghost use Rattle.std.specs.Prelude.{◌≡◌, ◌+◌, ◌*◌, ◌<◌, ◌/◌, length, Result, Ok, Err, IfOk, IfErr};
 ghost use Rattle.reading.specs.Refusals.{fields_refusal, parts_refusal, parts_of, shape_of, read_as, case_of};
-ghost use Rattle.reading.specs.Answers.{number_of, place_of, record_of, state_of};
-ghost use Rattle.reading.specs.declared.Check.{Check};
-ghost use Rattle.reading.specs.declared.Case.{Case};
+ghost use Rattle.reading.specs.Answers.{number_of, place_of, record_of, state_of, state_number, state_place};
 
 pub mod parts;
 pub mod refuse;
 
+use parts::Case;
+
 // A refusal, one variant for each row 10 to 32, with the place that the row gives.
-#[derive(Clone, Copy)]
+#[derive(Clone, Copy, PartialEq, Eq)]
 pub enum CaseRefusal {
     Short(usize),
     Tag(usize),
@@ -28,13 +28,6 @@ pub enum CaseRefusal {
     Temporals(usize),
 }
 
-// What a row, or several in their order, say of a case.
-#[derive(Clone, Copy)]
-pub enum Check {
-    Passed,
-    Refused(CaseRefusal),
-}
-
 // The sizes of an admitted case: S, A, the numbers of edges and of nodes, T and E.
 #[derive(Clone, Copy)]
 pub struct Shape {
@@ -46,13 +39,6 @@ pub struct Shape {
     pub eventualities: usize,
 }
 
-// What reading a case gives.
-#[derive(Clone, Copy)]
-pub enum Case {
-    Refused(CaseRefusal),
-    Admitted(Shape),
-}
-
 // A state's label and its initial mark, 0 or 1.
 #[repr(C)]
 #[derive(Clone, Copy)]
@@ -61,28 +47,101 @@ pub struct StateRecord {
     pub initial: u8,
 }
 
-// One state of a case: the case's refusal, S where there is no such state, or the record.
+// Why there is no record of a state: the case is refused, or has only S states.
 #[derive(Clone, Copy)]
-pub enum StateAnswer {
-    Refused(CaseRefusal),
+pub enum StateRefusal {
+    Case(CaseRefusal),
     NoState(usize),
-    Record(StateRecord),
 }
 
-// Reads a case: its first refusal, or its sizes.
-pub fn admit(bytes: &[u8]) -> Case
-    ensures { result ≡ case_of bytes.now }
-{
-    let by_fields = refuse::check_fields(bytes);
-    if let Check::Refused(r) = by_fields {
-        return Case::Refused(r);
+impl CaseRefusal {
+    // The row of a refusal.
+    pub fn number(self) -> usize
+        ensures { result ≡ number_of self }
+    {
+        match self {
+            CaseRefusal::Short(_) => 10,
+            CaseRefusal::Tag(_) => 11,
+            CaseRefusal::Length(_) => 12,
+            CaseRefusal::Range(_) => 13,
+            CaseRefusal::Rest(_) => 14,
+            CaseRefusal::Bits(_) => 20,
+            CaseRefusal::End(_) => 21,
+            CaseRefusal::Order(_) => 22,
+            CaseRefusal::DeadEnd(_) => 23,
+            CaseRefusal::Operator(_) => 30,
+            CaseRefusal::Operand(_) => 31,
+            CaseRefusal::Temporals(_) => 32,
+        }
     }
-    admit_parts(bytes)
+
+    // The place that a refusal gives.
+    pub fn place(self) -> usize
+        ensures { result ≡ place_of self }
+    {
+        match self {
+            CaseRefusal::Short(at)
+            | CaseRefusal::Tag(at)
+            | CaseRefusal::Length(at)
+            | CaseRefusal::Range(at)
+            | CaseRefusal::Rest(at)
+            | CaseRefusal::Bits(at)
+            | CaseRefusal::End(at)
+            | CaseRefusal::Order(at)
+            | CaseRefusal::DeadEnd(at)
+            | CaseRefusal::Operator(at)
+            | CaseRefusal::Operand(at)
+            | CaseRefusal::Temporals(at) => at,
+        }
+    }
+}
+
+impl StateRefusal {
+    // The row of a refusal.
+    pub fn number(self) -> usize
+        ensures { result ≡ state_number self }
+    {
+        match self {
+            StateRefusal::Case(r) => r.number(),
+            StateRefusal::NoState(_) => 42,
+        }
+    }
+
+    // The place that a refusal gives.
+    pub fn place(self) -> usize
+        ensures { result ≡ state_place self }
+    {
+        match self {
+            StateRefusal::Case(r) => r.place(),
+            StateRefusal::NoState(states) => states,
+        }
+    }
+}
+
+impl From<CaseRefusal> for StateRefusal {
+    ghost use Rattle.reading.specs.declared.StateRefusal.TheVariants.{Case as refused};
+
+    ghost from_gives = { λ r e. e ≡ refused r };
+
+    fn from(r: CaseRefusal) -> StateRefusal {
+        StateRefusal::Case(r)
+    }
+}
+
+// Reads a case: its first refusal, or the case with its sizes.
+#[tactic(auto, unfolding(crate::specs::Refusals::case_of, crate::specs::Refusals::refusal))]
+pub fn admit(bytes: &[u8]) -> Result<Case, CaseRefusal>
+    ensures refused { IfErr result (λ r. case_of bytes.now ≡ Err r) }
+    ensures read { IfOk result (λ case. case.bytes.now ≡ bytes.now) }
+{
+    refuse::check_fields(bytes)?;
+    let shape = admit_parts(bytes)?;
+    Ok(Case { bytes, shape })
 }
 
 // Rows 20 to 32 on the parts of a case whose fields are right.
-fn admit_parts(bytes: &[u8]) -> Case
-    requires { fields_refusal bytes.now ≡ Check.Passed }
+fn admit_parts(bytes: &[u8]) -> Result<Shape, CaseRefusal>
+    requires { fields_refusal bytes.now ≡ Ok tt }
     ensures { result ≡ read_as (parts_refusal (parts_of bytes.now)) (shape_of (parts_of bytes.now)) }
 {
     let states = parts::byte(bytes, 3);
@@ -94,11 +153,8 @@ fn admit_parts(bytes: &[u8]) -> Case
     let state_list = &bytes[8..states_end];
     let edge_list = &bytes[edges_start..edges_end];
     let node_list = &bytes[nodes_start..];
-    let by_parts = refuse::check_parts(states, atoms, state_list, edge_list, node_list);
-    if let Check::Refused(r) = by_parts {
-        return Case::Refused(r);
-    }
-    Case::Admitted(Shape {
+    refuse::check_parts(states, atoms, state_list, edge_list, node_list)?;
+    Ok(Shape {
         states,
         atoms,
         edges: edge_list.len() / 2,
@@ -108,47 +164,8 @@ fn admit_parts(bytes: &[u8]) -> Case
     })
 }
 
-// The row of a refusal.
-pub fn number(r: CaseRefusal) -> usize
-    ensures { result ≡ number_of r }
-{
-    match r {
-        CaseRefusal::Short(_) => 10,
-        CaseRefusal::Tag(_) => 11,
-        CaseRefusal::Length(_) => 12,
-        CaseRefusal::Range(_) => 13,
-        CaseRefusal::Rest(_) => 14,
-        CaseRefusal::Bits(_) => 20,
-        CaseRefusal::End(_) => 21,
-        CaseRefusal::Order(_) => 22,
-        CaseRefusal::DeadEnd(_) => 23,
-        CaseRefusal::Operator(_) => 30,
-        CaseRefusal::Operand(_) => 31,
-        CaseRefusal::Temporals(_) => 32,
-    }
-}
-
-// The place that a refusal gives.
-pub fn place(r: CaseRefusal) -> usize
-    ensures { result ≡ place_of r }
-{
-    match r {
-        CaseRefusal::Short(at) => at,
-        CaseRefusal::Tag(at) => at,
-        CaseRefusal::Length(at) => at,
-        CaseRefusal::Range(at) => at,
-        CaseRefusal::Rest(at) => at,
-        CaseRefusal::Bits(s) => s,
-        CaseRefusal::End(e) => e,
-        CaseRefusal::Order(e) => e,
-        CaseRefusal::DeadEnd(s) => s,
-        CaseRefusal::Operator(n) => n,
-        CaseRefusal::Operand(n) => n,
-        CaseRefusal::Temporals(t) => t,
-    }
-}
-
 // The record of one state.
+#[tactic(auto, unfolding(crate::specs::Answers::record_of))]
 pub fn record_at(states: &[u8], s: usize) -> StateRecord
     requires { 3 * s + 2 < length states.now }
     ensures { result ≡ record_of states.now s }
@@ -160,18 +177,14 @@ pub fn record_at(states: &[u8], s: usize) -> StateRecord
 }
 
 // One state of a case, or why there is none.
-pub fn state(bytes: &[u8], s: usize) -> StateAnswer
+#[tactic(auto, using(crate::proofs::Read::state_refused, crate::proofs::Read::state_there, crate::proofs::Read::state_none, crate::proofs::Known::known))]
+pub fn state(bytes: &[u8], s: usize) -> Result<StateRecord, StateRefusal>
     ensures { result ≡ state_of bytes.now s }
 {
-    match admit(bytes) {
-        Case::Refused(r) => StateAnswer::Refused(r),
-        Case::Admitted(shape) => {
-            let states = shape.states;
-            if s < states {
-                StateAnswer::Record(record_at(parts::state_list(bytes, shape), s))
-            } else {
-                StateAnswer::NoState(states)
-            }
-        }
+    let case = admit(bytes)?;
+    let states = case.shape.states;
+    if states <= s {
+        return Err(StateRefusal::NoState(states));
     }
+    Ok(record_at(case.states(), s))
 }

@@ -1,65 +1,71 @@
 // What an admitted case says: its parts as slices, and from them labels, edges and nodes.
-ghost use Rattle.std.specs.Prelude.{◌≡◌, cond, ◌&&◌, leb, eqb, ◌+◌, ◌*◌, ◌≤◌, ◌<◌, ◌/◌, ◌^◌, length, get_or};
+ghost use Rattle.std.specs.Prelude.{◌≡◌, ◌↔◌, ◌+◌, ◌*◌, ◌≤◌, ◌<◌, ◌/◌, ◌^◌, length, get_or, Ok, IsErr, IfOk};
 ghost use Rattle.reading.specs.Parts.{label_of, flags_of, initial_of, from_of, to_of, has_edge, node_of, operators_from};
+ghost use Rattle.reading.specs.Node.{node_is};
 ghost use Rattle.reading.specs.Refusals.{parts_of, case_of};
-ghost use Rattle.reading.specs.declared.Case.{Case};
 
 use crate::Shape;
+use rule::{Operator, UnknownOperator};
 
-// The value of field 02.
-pub fn state_list(bytes: &[u8], shape: Shape) -> &[u8]
-    requires { case_of bytes.now ≡ Case.Admitted shape }
-    ensures { result.now ≡ (parts_of bytes.now).state_list }
-{
-    let states = shape.states;
-    let end = 8 + 3 * states;
-    &bytes[8..end]
+// An admitted case: its bytes, and the sizes that reading them gave.
+#[derive(Clone, Copy)]
+pub struct Case<'a> {
+    pub bytes: &'a [u8],
+    pub shape: Shape,
+    pub ghost admitted: { case_of bytes.now ≡ Ok shape },
 }
 
-// The value of field 03.
-pub fn edge_list(bytes: &[u8], shape: Shape) -> &[u8]
-    requires { case_of bytes.now ≡ Case.Admitted shape }
-    ensures { result.now ≡ (parts_of bytes.now).edge_list }
-{
-    let states = shape.states;
-    let edges = shape.edges;
-    let start = 11 + 3 * states;
-    let end = start + 2 * edges;
-    &bytes[start..end]
-}
+impl<'a> Case<'a> {
+    // The value of field 02.
+    #[tactic(auto, using(crate::proofs::Spans::spans, crate::proofs::Spans::states_lie))]
+    pub fn states(&self) -> &'a [u8]
+        ensures { result.now ≡ (parts_of self.now.bytes.now).state_list }
+    {
+        let end = 8 + 3 * self.shape.states;
+        &self.bytes[8..end]
+    }
 
-// The value of field 04.
-pub fn node_list(bytes: &[u8], shape: Shape) -> &[u8]
-    requires { case_of bytes.now ≡ Case.Admitted shape }
-    ensures { result.now ≡ (parts_of bytes.now).node_list }
-{
-    let states = shape.states;
-    let edges = shape.edges;
-    let nodes = shape.nodes;
-    let start = 14 + 3 * states + 2 * edges;
-    let end = start + 3 * nodes;
-    &bytes[start..end]
+    // The value of field 03.
+    #[tactic(auto, using(crate::proofs::Spans::spans, crate::proofs::Spans::edges_lie))]
+    pub fn edges(&self) -> &'a [u8]
+        ensures { result.now ≡ (parts_of self.now.bytes.now).edge_list }
+    {
+        let start = 11 + 3 * self.shape.states;
+        let end = start + 2 * self.shape.edges;
+        &self.bytes[start..end]
+    }
+
+    // The value of field 04.
+    #[tactic(auto, using(crate::proofs::Spans::spans, crate::proofs::Spans::nodes_lie))]
+    pub fn nodes(&self) -> &'a [u8]
+        ensures { result.now ≡ (parts_of self.now.bytes.now).node_list }
+    {
+        let start = 14 + 3 * self.shape.states + 2 * self.shape.edges;
+        let end = start + 3 * self.shape.nodes;
+        &self.bytes[start..end]
+    }
 }
 
 // The byte at an index, as a number.
 pub fn byte(list: &[u8], i: usize) -> usize
     requires { i < length list.now }
-    ensures { (result ≡ get_or list.now i 0) × (result < 256) }
+    ensures value { result ≡ get_or list.now i 0 }
+    ensures small { result < 256 }
 {
-    list[i] as usize
+    usize::from(list[i])
 }
 
 // A state's label: bit j of it is atom j.
+#[tactic(auto, unfolding(crate::specs::Parts::label_of))]
 pub fn label(states: &[u8], s: usize) -> u16
     requires { 3 * s + 2 < length states.now }
     ensures { result ≡ label_of states.now s }
 {
-    let low = byte(states, 3 * s);
-    let high = byte(states, 3 * s + 1);
-    (low + 256 * high) as u16
+    u16::from_le_bytes([states[3 * s], states[3 * s + 1]])
 }
 
 // A state's flags, which are 0 or 1 in an admitted case.
+#[tactic(auto, unfolding(crate::specs::Parts::flags_of))]
 pub fn flags(states: &[u8], s: usize) -> u8
     requires { 3 * s + 2 < length states.now }
     ensures { result ≡ flags_of states.now s }
@@ -68,6 +74,7 @@ pub fn flags(states: &[u8], s: usize) -> u8
 }
 
 // Whether a state is initial.
+#[tactic(auto, unfolding(crate::specs::Parts::initial_of))]
 pub fn initial(states: &[u8], s: usize) -> bool
     requires { 3 * s + 2 < length states.now }
     ensures { result ≡ initial_of states.now s }
@@ -75,106 +82,106 @@ pub fn initial(states: &[u8], s: usize) -> bool
     flags(states, s) == 1
 }
 
-// Which end of an edge: the state that it leaves, or the state that it enters.
-pub const FROM: usize = 0;
+// An edge: the state that it leaves, and the state that it enters. Edges are ordered by from and then by to.
+#[derive(Clone, Copy, PartialEq, Eq, PartialOrd, Ord)]
+pub struct Edge {
+    pub from: usize,
+    pub to: usize,
+}
 
-pub const TO: usize = 1;
-
-// The state at an end of an edge.
-pub fn end(edges: &[u8], e: usize, which: usize) -> usize
-    requires { (2 * e + 1 < length edges.now) × (which ≤ 1) }
-    ensures { result ≡ cond (eqb which 0) (from_of edges.now e) (to_of edges.now e) }
+// An edge of the list.
+#[tactic(auto, unfolding(crate::specs::Parts::from_of, crate::specs::Parts::to_of))]
+pub fn edge_at(edges: &[u8], e: usize) -> Edge
+    requires { 2 * e + 1 < length edges.now }
+    ensures from { result.from ≡ from_of edges.now e }
+    ensures to { result.to ≡ to_of edges.now e }
 {
-    byte(edges, 2 * e + which)
+    Edge {
+        from: byte(edges, 2 * e),
+        to: byte(edges, 2 * e + 1),
+    }
 }
 
 // Whether the table has an edge from x to y.
+#[tactic(auto, using(crate::proofs::Lowest::any_none), unfolding(crate::specs::Parts::has_edge))]
 pub fn has_edge(edges: &[u8], x: usize, y: usize) -> bool
     ensures { result ≡ has_edge edges.now x y }
 {
-    let count = edges.len() / 2;
-    let mut e = 0;
-    while e < count {
-        if goes(edges, e, x, y) {
+    for e in 0..edges.len() / 2 {
+        if edge_at(edges, e) == (Edge { from: x, to: y }) {
             return true;
         }
-        e += 1;
     }
     false
 }
 
-// Whether edge e goes from x to y.
-fn goes(edges: &[u8], e: usize, x: usize, y: usize) -> bool
-    requires { 2 * e + 1 < length edges.now }
-    ensures { result ≡ eqb (from_of edges.now e) x && eqb (to_of edges.now e) y }
-{
-    end(edges, e, FROM) == x && end(edges, e, TO) == y
+// A node: its operator, and its two bytes (an atom's number or the first operand, and the second operand).
+#[derive(Clone, Copy, Debug, PartialEq, Eq)]
+pub struct Node {
+    pub operator: Operator,
+    pub first: usize,
+    pub second: usize,
 }
 
-// A node's operator, 0 to 11 in an admitted case.
-pub fn operator(nodes: &[u8], n: usize) -> usize
+// Node n, unless its operator is unknown.
+#[tactic(auto, unfolding(crate::specs::Parts::node_of))]
+pub fn read_node(nodes: &[u8], n: usize) -> Result<Node, UnknownOperator>
     requires { 3 * n + 2 < length nodes.now }
-    ensures { result ≡ (node_of nodes.now n).operator }
+    ensures ok { IfOk result (λ node. node_is node ≡ node_of nodes.now n) }
+    ensures unknown { IsErr result ↔ (11 < (node_of nodes.now n).operator) }
 {
-    byte(nodes, 3 * n)
+    Ok(Node {
+        operator: Operator::try_from(nodes[3 * n])?,
+        first: byte(nodes, 3 * n + 1),
+        second: byte(nodes, 3 * n + 2),
+    })
 }
 
-// A node's first byte: an atom's number, or the first operand.
-pub fn first(nodes: &[u8], n: usize) -> usize
-    requires { 3 * n + 2 < length nodes.now }
-    ensures { result ≡ (node_of nodes.now n).first }
+// Node n of an admitted case.
+pub fn node_at(nodes: &[u8], n: usize) -> Node
+    requires there { 3 * n + 2 < length nodes.now }
+    requires known { (node_of nodes.now n).operator < 12 }
+    ensures { node_is result ≡ node_of nodes.now n }
 {
-    byte(nodes, 3 * n + 1)
+    match read_node(nodes, n) {
+        Ok(node) => node,
+        Err(_) => unreachable!(),
+    }
 }
 
-// A node's second byte: the second operand.
-pub fn second(nodes: &[u8], n: usize) -> usize
-    requires { 3 * n + 2 < length nodes.now }
-    ensures { result ≡ (node_of nodes.now n).second }
-{
-    byte(nodes, 3 * n + 2)
-}
+// The highest operator's number.
+const LAST_OPERATOR: usize = 11;
 
-// How many nodes have operators from this one to 11: T from 6, E from 7.
+// How many nodes have operators from this number to 11: T from 6, E from 7.
+#[tactic(auto, unfolding(crate::specs::Parts::operators_from, crate::specs::Parts::operator_from, crate::specs::Parts::node_of, crate::specs::Lowest::count))]
 pub fn operators_from(nodes: &[u8], low: usize) -> usize
     ensures { result ≡ operators_from low nodes.now }
 {
-    let count = nodes.len() / 3;
     let mut total = 0;
-    let mut n = 0;
-    while n < count {
-        total += in_range(operator(nodes, n), low);
-        n += 1;
-    }
-    total
-}
-
-// 1 for an operator from `low` to 11, and 0 for another.
-fn in_range(operator: usize, low: usize) -> usize
-    ensures { (result ≡ cond (leb low operator && leb operator 11) 1 0) × (result ≤ 1) }
-{
-    if low <= operator {
-        if operator <= LAST_OPERATOR {
-            return 1;
+    for n in 0..nodes.len() / 3 {
+        let operator = byte(nodes, 3 * n);
+        if (low..=LAST_OPERATOR).contains(&operator) {
+            total += 1;
         }
     }
-    0
+    total
 }
 
 // 2 to the power T, for T up to 4.
 pub fn guesses(temporals: usize) -> usize
     requires { temporals ≤ 4 }
-    ensures { (result ≡ 2 ^ temporals) × (result ≤ 16) }
+    ensures power { result ≡ 2 ^ temporals }
+    ensures few { result ≤ 16 }
 {
     1 << temporals
 }
 
 // P, the number of places of the product.
 pub fn places(shape: Shape) -> usize
-    requires { (shape.states ≤ 64) × (shape.temporals ≤ 4) × (shape.eventualities ≤ 4) }
+    requires few_states { shape.states ≤ 64 }
+    requires few_temporals { shape.temporals ≤ 4 }
+    requires fewer_eventualities { shape.eventualities ≤ 4 }
     ensures { result ≡ shape.states * 2 ^ shape.temporals * (shape.eventualities + 1) }
 {
     shape.states * guesses(shape.temporals) * (shape.eventualities + 1)
 }
-
-pub const LAST_OPERATOR: usize = 11;

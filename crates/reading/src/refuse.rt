@@ -1,11 +1,12 @@
 // The refusals, in the order of the table. A walk gives the lowest bad place, or the number of places if none is bad.
-ghost use Rattle.std.specs.Prelude.{◌≡◌, ◌||◌, ◌+◌, ◌*◌, ◌≤◌, ◌<◌, ◌/◌, length};
-ghost use Rattle.meaning.specs.Laws.{operands as operands_of};
-ghost use Rattle.reading.specs.Lowest.{lowest};
-ghost use Rattle.reading.specs.Parts.{edge_count, node_count};
+ghost use Rattle.std.specs.Prelude.{◌≡◌, false, ◌||◌, leb, IsNone, IfSome, ◌+◌, ◌*◌, ◌≤◌, ◌<◌, ◌/◌, length};
+ghost use Rattle.rule.specs.Operator.{code};
+ghost use Rattle.reading.specs.Lowest.{lowest, any};
 ghost use Rattle.reading.specs.Refusals.{in_steps, length_at, out_of_range, field_refusal, last_refusal, fields_refusal, bad_state, bad_end, above, not_above, starts_none, unknown, first_limit, second_limit, wrong_byte, states_refusal, edges_refusal, dead_end_refusal, nodes_refusal, temporals_refusal, parts_refusal};
 
-use crate::{CaseRefusal, Check, parts};
+use crate::parts::Node;
+use crate::{CaseRefusal, parts};
+use rule::{Operator, Plain};
 
 const MOST_STATES: usize = 64;
 
@@ -17,343 +18,299 @@ const MOST_NODE_BYTES: usize = 96;
 
 const MOST_TEMPORALS: usize = 4;
 
-// Of each operator, how many operands it has.
-const OPERANDS: [usize; 12] = [0, 0, 1, 2, 2, 2, 1, 1, 1, 2, 2, 2];
-
 // The length of the field that starts at `at`: two bytes after its tag, low byte first.
+#[tactic(auto, unfolding(crate::specs::Refusals::length_at))]
 pub fn length_at(bytes: &[u8], at: usize) -> usize
     requires { at + 2 < length bytes.now }
-    ensures { (result ≡ length_at bytes.now at) × (result < 65536) }
+    ensures value { result ≡ length_at bytes.now at }
+    ensures small { result < 65536 }
 {
-    parts::byte(bytes, at + 1) + 256 * parts::byte(bytes, at + 2)
+    u16::from_le_bytes([bytes[at + 1], bytes[at + 2]]).into()
 }
 
-// Whether a length is a multiple of `step` from `least` to `most`.
-fn in_steps(step: usize, least: usize, most: usize, n: usize) -> bool
-    requires { 0 < step }
-    ensures { result ≡ in_steps step least most n }
-{
-    if n % step != 0 {
-        return false;
+// The lengths that a field may have: the multiples of `step` from `least` to `most`.
+#[derive(Clone, Copy)]
+struct Lengths {
+    step: usize,
+    least: usize,
+    most: usize,
+    ghost some_step: { 0 < step },
+}
+
+impl Lengths {
+    // Whether a length is one of them.
+    #[tactic(auto, unfolding(crate::specs::Refusals::in_steps))]
+    fn take(self, n: usize) -> bool
+        ensures { result ≡ in_steps self.step self.least self.most n }
+    {
+        n % self.step == 0 && self.least <= n && n <= self.most
     }
-    least <= n && n <= most
 }
 
 // 10, 11, 12 and 10 again, for the field that starts at `at`.
-fn check_field(bytes: &[u8], at: usize, tag: usize, step: usize, least: usize, most: usize) -> Check
-    requires { (0 < step) × (at < 4294967296) }
-    ensures { result ≡ field_refusal bytes.now at tag (in_steps step least most) }
+#[tactic(auto, unfolding(crate::specs::Refusals::field_refusal))]
+fn check_field(bytes: &[u8], at: usize, tag: usize, lengths: Lengths) -> Result<(), CaseRefusal>
+    requires { at < 4294967296 }
+    ensures { result ≡ field_refusal bytes.now at tag (in_steps lengths.step lengths.least lengths.most) }
 {
     if bytes.len() < at + 3 {
-        return Check::Refused(CaseRefusal::Short(at));
+        return Err(CaseRefusal::Short(at));
     }
     let tag_right = parts::byte(bytes, at) == tag;
     let size = length_at(bytes, at);
-    let size_right = in_steps(step, least, most, size);
+    let size_right = lengths.take(size);
     if !tag_right {
-        return Check::Refused(CaseRefusal::Tag(at));
+        return Err(CaseRefusal::Tag(at));
     }
     if !size_right {
-        return Check::Refused(CaseRefusal::Length(at));
+        return Err(CaseRefusal::Length(at));
     }
     if bytes.len() < at + 3 + size {
-        return Check::Refused(CaseRefusal::Short(at));
+        return Err(CaseRefusal::Short(at));
     }
-    Check::Passed
+    Ok(())
 }
 
 // Whether S or A is outside its range.
+#[tactic(auto, unfolding(crate::specs::Refusals::out_of_range))]
 fn out_of_range(states: usize, atoms: usize) -> bool
     ensures { result ≡ out_of_range states atoms }
 {
-    if states < 1 {
-        return true;
-    }
-    MOST_STATES < states || MOST_ATOMS < atoms
+    states < 1 || MOST_STATES < states || MOST_ATOMS < atoms
 }
 
 // Rows 10 to 14.
-pub fn check_fields(bytes: &[u8]) -> Check
+#[tactic(auto, using(crate::proofs::Fields::field_passed, crate::proofs::Fields::first_there), unfolding(crate::specs::Refusals::fields_refusal, crate::specs::Refusals::at04))]
+pub fn check_fields(bytes: &[u8]) -> Result<(), CaseRefusal>
     ensures { result ≡ fields_refusal bytes.now }
 {
-    let first = check_field(bytes, 0, 1, 1, 2, 2);
-    if let Check::Refused(r) = first {
-        return Check::Refused(r);
-    }
+    check_field(
+        bytes,
+        0,
+        1,
+        Lengths {
+            step: 1,
+            least: 2,
+            most: 2,
+        },
+    )?;
     let states = parts::byte(bytes, 3);
     if out_of_range(states, parts::byte(bytes, 4)) {
-        return Check::Refused(CaseRefusal::Range(0));
+        return Err(CaseRefusal::Range(0));
     }
-    let second = check_field(bytes, 5, 2, 1, 3 * states, 3 * states);
-    if let Check::Refused(r) = second {
-        return Check::Refused(r);
-    }
+    check_field(
+        bytes,
+        5,
+        2,
+        Lengths {
+            step: 1,
+            least: 3 * states,
+            most: 3 * states,
+        },
+    )?;
     let at = 8 + 3 * states;
-    let third = check_field(bytes, at, 3, 2, 2, MOST_EDGE_BYTES);
-    if let Check::Refused(r) = third {
-        return Check::Refused(r);
-    }
+    check_field(
+        bytes,
+        at,
+        3,
+        Lengths {
+            step: 2,
+            least: 2,
+            most: MOST_EDGE_BYTES,
+        },
+    )?;
     check_last_field(bytes, at + 3 + length_at(bytes, at))
 }
 
 // Field 04, and nothing after it.
-fn check_last_field(bytes: &[u8], at: usize) -> Check
+#[tactic(auto, using(crate::proofs::Fields::field_passed), unfolding(crate::specs::Refusals::last_refusal))]
+fn check_last_field(bytes: &[u8], at: usize) -> Result<(), CaseRefusal>
     requires { at < 4294967296 }
     ensures { result ≡ last_refusal bytes.now at }
 {
-    let last = check_field(bytes, at, 4, 3, 3, MOST_NODE_BYTES);
-    if let Check::Refused(r) = last {
-        return Check::Refused(r);
-    }
+    check_field(
+        bytes,
+        at,
+        4,
+        Lengths {
+            step: 3,
+            least: 3,
+            most: MOST_NODE_BYTES,
+        },
+    )?;
     let end = at + 3 + length_at(bytes, at);
     if end < bytes.len() {
-        return Check::Refused(CaseRefusal::Rest(end));
+        return Err(CaseRefusal::Rest(end));
     }
-    Check::Passed
+    Ok(())
 }
 
 // 20 of one state.
+#[tactic(auto, unfolding(crate::specs::Refusals::bad_state))]
 fn bad_state(list: &[u8], atoms: usize, s: usize) -> bool
     requires { (3 * s + 2 < length list.now) × (atoms ≤ 16) }
     ensures { result ≡ bad_state atoms list.now s }
 {
-    (parts::label(list, s) as u32) >> atoms != 0 || 1 < parts::flags(list, s)
-}
-
-fn lowest_bad_state(list: &[u8], states: usize, atoms: usize) -> usize
-    requires { (3 * states ≤ length list.now) × (atoms ≤ 16) }
-    ensures { result ≡ lowest (bad_state atoms list.now) states }
-{
-    let mut s = 0;
-    while s < states {
-        if bad_state(list, atoms, s) {
-            return s;
-        }
-        s += 1;
-    }
-    s
+    u32::from(parts::label(list, s)) >> atoms != 0 || 1 < parts::flags(list, s)
 }
 
 // 20.
-fn check_states(list: &[u8], states: usize, atoms: usize) -> Check
-    requires { (3 * states ≤ length list.now) × (atoms ≤ 16) }
+fn check_states(list: &[u8], states: usize, atoms: usize) -> Result<(), CaseRefusal>
+    requires few_states { 3 * states ≤ length list.now }
+    requires few_atoms { atoms ≤ 16 }
     ensures { result ≡ states_refusal states atoms list.now }
 {
-    let s = lowest_bad_state(list, states, atoms);
-    if s < states {
-        return Check::Refused(CaseRefusal::Bits(s));
+    for s in 0..states {
+        if bad_state(list, atoms, s) {
+            return Err(CaseRefusal::Bits(s));
+        }
     }
-    Check::Passed
+    Ok(())
 }
 
 // 21 of one edge.
+#[tactic(auto, unfolding(crate::specs::Refusals::bad_end))]
 fn bad_end(list: &[u8], states: usize, e: usize) -> bool
     requires { 2 * e + 1 < length list.now }
     ensures { result ≡ bad_end states list.now e }
 {
-    states <= parts::end(list, e, parts::FROM) || states <= parts::end(list, e, parts::TO)
+    let edge = parts::edge_at(list, e);
+    states <= edge.from || states <= edge.to
 }
 
 // Whether edge e is above edge d, by from and then by to.
+#[tactic(auto, unfolding(crate::specs::Refusals::above))]
 fn is_above(list: &[u8], e: usize, d: usize) -> bool
-    requires { (2 * e + 1 < length list.now) × (2 * d + 1 < length list.now) }
+    requires upper { 2 * e + 1 < length list.now }
+    requires lower { 2 * d + 1 < length list.now }
     ensures { result ≡ above list.now e d }
 {
-    let lower = parts::end(list, d, parts::FROM);
-    let upper = parts::end(list, e, parts::FROM);
-    lower < upper
-        || (lower == upper && parts::end(list, d, parts::TO) < parts::end(list, e, parts::TO))
+    parts::edge_at(list, d) < parts::edge_at(list, e)
 }
 
 // 22 of one edge.
+#[tactic(auto, unfolding(crate::specs::Refusals::not_above))]
 fn not_above(list: &[u8], e: usize) -> bool
     requires { 2 * e + 1 < length list.now }
     ensures { result ≡ not_above list.now e }
 {
-    if e == 0 {
-        return false;
-    }
-    !is_above(list, e, e - 1)
-}
-
-fn lowest_bad_edge(list: &[u8], states: usize) -> usize
-    ensures { result ≡ lowest (λ e. bad_end states list.now e || not_above list.now e) (edge_count list.now) }
-{
-    let count = list.len() / 2;
-    let mut e = 0;
-    while e < count {
-        if bad_edge(list, states, e) {
-            return e;
-        }
-        e += 1;
-    }
-    e
-}
-
-// 21 or 22 of one edge.
-fn bad_edge(list: &[u8], states: usize, e: usize) -> bool
-    requires { 2 * e + 1 < length list.now }
-    ensures { result ≡ bad_end states list.now e || not_above list.now e }
-{
-    bad_end(list, states, e) || not_above(list, e)
+    0 < e && !is_above(list, e, e - 1)
 }
 
 // 21 and 22, edge by edge.
-fn check_edges(list: &[u8], states: usize) -> Check
+fn check_edges(list: &[u8], states: usize) -> Result<(), CaseRefusal>
     ensures { result ≡ edges_refusal states list.now }
 {
-    let e = lowest_bad_edge(list, states);
-    if e < list.len() / 2 {
+    for e in 0..list.len() / 2 {
         if bad_end(list, states, e) {
-            return Check::Refused(CaseRefusal::End(e));
+            return Err(CaseRefusal::End(e));
         }
-        return Check::Refused(CaseRefusal::Order(e));
+        if not_above(list, e) {
+            return Err(CaseRefusal::Order(e));
+        }
     }
-    Check::Passed
+    Ok(())
 }
 
-// The lowest state that starts no edge, or S if each starts one; `left` states are still to be looked at. The label leaves both
-// loops: at the first edge that the state starts, for the next state; at a dead end, for good.
-fn lowest_dead_end(list: &[u8], states: usize) -> usize
-    ensures { result ≡ lowest (starts_none list.now) states }
+// The lowest state that starts no edge, if there is one. The label leaves both loops: at the first edge that the state starts, for
+// the next state; at a dead end, for good.
+#[tactic(auto, using(crate::proofs::Rows::starts_one, crate::proofs::Rows::starts_none_lem, crate::proofs::Lowest::lowest_is, crate::proofs::Lowest::any_none))]
+fn lowest_dead_end(list: &[u8], states: usize) -> Option<usize>
+    ensures none { IsNone result → any (starts_none list.now) states ≡ false }
+    ensures lowest { IfSome result (λ s. (s ≡ lowest (starts_none list.now) states) × (s < states)) }
 {
-    let count = list.len() / 2;
-    let mut found = states;
-    let mut left = states;
-    'states: while 0 < left {
-        let s = states - left;
-        let mut e = 0;
-        while e < count {
-            if parts::end(list, e, parts::FROM) == s {
-                left -= 1;
+    let mut found = None;
+    'states: for s in 0..states {
+        for e in 0..list.len() / 2 {
+            if parts::edge_at(list, e).from == s {
                 continue 'states;
             }
-            e += 1;
         }
-        found = s;
+        found = Some(s);
         break 'states;
     }
     found
 }
 
 // 23.
-fn check_dead_ends(list: &[u8], states: usize) -> Check
+#[tactic(auto, unfolding(crate::specs::Refusals::dead_end_refusal, crate::specs::Lowest::any))]
+fn check_dead_ends(list: &[u8], states: usize) -> Result<(), CaseRefusal>
     ensures { result ≡ dead_end_refusal states list.now }
 {
-    let s = lowest_dead_end(list, states);
-    if s < states {
-        return Check::Refused(CaseRefusal::DeadEnd(s));
+    match lowest_dead_end(list, states) {
+        Some(s) => Err(CaseRefusal::DeadEnd(s)),
+        None => Ok(()),
     }
-    Check::Passed
 }
 
-// 30 of one node.
-fn is_unknown(list: &[u8], n: usize) -> bool
-    requires { 3 * n + 2 < length list.now }
-    ensures { result ≡ unknown list.now n }
+// What the first byte of node n must be below: A for an atom, the node's own number for an operand, 1 where it is unused.
+#[tactic(auto, unfolding(crate::specs::Refusals::first_limit))]
+fn first_limit(operator: Operator, atoms: usize, n: usize) -> usize
+    ensures { result ≡ first_limit (code operator) atoms n }
 {
-    parts::LAST_OPERATOR < parts::operator(list, n)
-}
-
-// How many operands an operator has.
-pub fn operands(operator: usize) -> usize
-    ensures { result ≡ operands_of operator }
-{
-    if operator <= parts::LAST_OPERATOR {
-        return OPERANDS[operator];
+    match operator {
+        Operator::Plain(Plain::True) => 1,
+        Operator::Plain(Plain::Atom) => atoms,
+        _ => n,
     }
-    0
-}
-
-// What a node's first byte must be below: A for an atom, the node's own number for an operand, 1 where it is unused.
-fn first_limit(operator: usize, atoms: usize, n: usize) -> usize
-    ensures { result ≡ first_limit operator atoms n }
-{
-    if operator == 1 {
-        return atoms;
-    }
-    if 1 <= operands(operator) {
-        return n;
-    }
-    1
 }
 
 // The same of its second byte.
-fn second_limit(operator: usize, n: usize) -> usize
-    ensures { result ≡ second_limit operator n }
+#[tactic(auto, unfolding(crate::specs::Refusals::second_limit))]
+fn second_limit(operator: Operator, n: usize) -> usize
+    ensures { result ≡ second_limit (code operator) n }
 {
-    if 2 <= operands(operator) {
-        return n;
-    }
-    1
+    if 2 <= operator.operands() { n } else { 1 }
 }
 
-// 31 of one node.
-fn wrong_byte(list: &[u8], atoms: usize, n: usize) -> bool
-    requires { 3 * n + 2 < length list.now }
-    ensures { result ≡ wrong_byte atoms list.now n }
+// 31 of node n.
+fn wrong_byte(node: Node, atoms: usize, n: usize) -> bool
+    ensures { result ≡ leb (first_limit (code node.operator) atoms n) node.first
+        || leb (second_limit (code node.operator) n) node.second }
 {
-    let operator = parts::operator(list, n);
-    first_limit(operator, atoms, n) <= parts::first(list, n)
-        || second_limit(operator, n) <= parts::second(list, n)
-}
-
-// 30 or 31 of one node.
-fn bad_node(list: &[u8], atoms: usize, n: usize) -> bool
-    requires { 3 * n + 2 < length list.now }
-    ensures { result ≡ unknown list.now n || wrong_byte atoms list.now n }
-{
-    is_unknown(list, n) || wrong_byte(list, atoms, n)
-}
-
-fn lowest_bad_node(list: &[u8], atoms: usize) -> usize
-    ensures { result ≡ lowest (λ n. unknown list.now n || wrong_byte atoms list.now n) (node_count list.now) }
-{
-    let count = list.len() / 3;
-    let mut n = 0;
-    while n < count {
-        if bad_node(list, atoms, n) {
-            return n;
-        }
-        n += 1;
-    }
-    n
+    first_limit(node.operator, atoms, n) <= node.first
+        || second_limit(node.operator, n) <= node.second
 }
 
 // 30 and 31, node by node.
-fn check_nodes(list: &[u8], atoms: usize) -> Check
+#[tactic(auto, unfolding(crate::specs::Refusals::unknown, crate::specs::Refusals::wrong_byte))]
+fn check_nodes(list: &[u8], atoms: usize) -> Result<(), CaseRefusal>
     ensures { result ≡ nodes_refusal atoms list.now }
 {
-    let n = lowest_bad_node(list, atoms);
-    if n < list.len() / 3 {
-        if is_unknown(list, n) {
-            return Check::Refused(CaseRefusal::Operator(n));
+    for n in 0..list.len() / 3 {
+        let Ok(node) = parts::read_node(list, n) else {
+            return Err(CaseRefusal::Operator(n));
+        };
+        if wrong_byte(node, atoms, n) {
+            return Err(CaseRefusal::Operand(n));
         }
-        return Check::Refused(CaseRefusal::Operand(n));
     }
-    Check::Passed
+    Ok(())
 }
 
 // 32.
-fn check_temporals(list: &[u8]) -> Check
+#[tactic(auto, unfolding(crate::specs::Refusals::temporals_refusal))]
+fn check_temporals(list: &[u8]) -> Result<(), CaseRefusal>
     ensures { result ≡ temporals_refusal list.now }
 {
     let temporals = parts::operators_from(list, 6);
     if MOST_TEMPORALS < temporals {
-        return Check::Refused(CaseRefusal::Temporals(temporals));
+        return Err(CaseRefusal::Temporals(temporals));
     }
-    Check::Passed
+    Ok(())
 }
 
 // Rows 20 to 32.
+#[tactic(auto, unfolding(crate::specs::Refusals::parts_refusal))]
 pub fn check_parts(
     states: usize,
     atoms: usize,
     state_list: &[u8],
     edge_list: &[u8],
     node_list: &[u8],
-) -> Check
-    requires { (3 * states ≤ length state_list.now) × (atoms ≤ 16) }
+) -> Result<(), CaseRefusal>
+    requires few_states { 3 * states ≤ length state_list.now }
+    requires few_atoms { atoms ≤ 16 }
     ensures { result ≡ parts_refusal (record {
       states = states;
       atoms = atoms;
@@ -362,21 +319,9 @@ pub fn check_parts(
       node_list = node_list.now;
     }) }
 {
-    let by_states = check_states(state_list, states, atoms);
-    if let Check::Refused(r) = by_states {
-        return Check::Refused(r);
-    }
-    let by_edges = check_edges(edge_list, states);
-    if let Check::Refused(r) = by_edges {
-        return Check::Refused(r);
-    }
-    let by_dead_ends = check_dead_ends(edge_list, states);
-    if let Check::Refused(r) = by_dead_ends {
-        return Check::Refused(r);
-    }
-    let by_nodes = check_nodes(node_list, atoms);
-    if let Check::Refused(r) = by_nodes {
-        return Check::Refused(r);
-    }
+    check_states(state_list, states, atoms)?;
+    check_edges(edge_list, states)?;
+    check_dead_ends(edge_list, states)?;
+    check_nodes(node_list, atoms)?;
     check_temporals(node_list)
 }

@@ -1,4 +1,5 @@
--- What is shown of words and values.
+-- What is shown of numbers of operators, words and values.
+pub mod Codes
 pub mod Operands
 pub mod Values
 pub mod Passes

@@ -2,203 +2,199 @@
 // first, plus the successor's bits.
 #![tactic(auto)]
 
-ghost use Rattle.std.specs.Prelude.{◌≡◌, ℕ, ◌+◌, ◌-◌, ◌*◌, ◌/◌, ◌%◌, ◌≤◌, ◌<◌, length, get_or, true};
+ghost use Rattle.std.specs.Prelude.{◌≡◌, ℕ, ◌+◌, ◌-◌, ◌*◌, ◌/◌, ◌%◌, ◌≤◌, ◌<◌, length, get_or, true, IfSome, MatchOption};
 ghost use Rattle.bits.specs.Bits.{bit};
-ghost use Rattle.workspace.proofs.Setting.{Setting, Topped, Coded};
+ghost use Rattle.workspace.proofs.Setting.{Topped, Coded};
 ghost use Rattle.workspace.proofs.TurnsIn.{ScanFinds, ScanSkips};
-ghost use Rattle.workspace.proofs.Scanning.{next_in, cursors_in, RowIn, narrowed_in, fitting_in, LowestSet, LowestUnder, index_in, line_of, Scannable, Passed, Stops};
+ghost use Rattle.workspace.proofs.Scanning.{next_in, cursors_in, RowIn, narrowed_in, fitting_in, Clear, LowestSet, Spared, LowestUnder, Scannable, Passed, Stops};
+ghost use Rattle.scans.specs.Cases.{OfCase, index_with, colour_with, line};
 
-use lanes::{CARRY, FAILS, MET, NEED, ONES};
+use lanes::{CARRY, FAILS, MET, NEED};
 use reading::parts;
 
 pub mod places;
+pub mod roots;
 
-use places::Sizes;
+use places::{Place, Sizes};
 
-// What a scan finds: the cursor and the place there, or nothing.
+// What a scan finds: where it stands then, and the code of the place there.
 #[derive(Clone, Copy)]
-pub enum Found {
-    At { cursor: usize, code: usize },
-    Nothing,
+pub struct Candidate {
+    pub cursor: usize,
+    pub code: usize,
 }
 
-// What a scan goes by: the place's state and bits, its successors' waiting number, its first edge, and where its cursors end.
+// The cursors of a place: its successors' waiting number, its first edge, and where its cursors end.
 #[derive(Clone, Copy)]
-pub struct Row {
-    pub state: usize,
-    pub bits: usize,
-    pub next: usize,
-    pub first: usize,
-    pub end: usize,
-}
-
-// The waiting number after a place of state s, bits b and waiting number w.
-fn next_waiting(lanes: &[u16; 1024], top: usize, s: usize, b: usize, w: usize) -> usize
-    requires { (s < 64) × (b < 16) × (w < 8) }
-    ensures { result ≡ next_in lanes.now top s b w }
-{
-    if top <= w {
-        return 0;
-    }
-    if places::is_set(lanes[s * 16 + MET + w], b) {
-        return w + 1;
-    }
-    w
-}
-
-// The cursors of a place: 16 for each edge of its state, or none where nothing follows.
-fn cursors(lanes: &[u16; 1024], edges: usize, s: usize, b: usize) -> usize
-    requires { (edges < 65536) × (s < 64) × (b < 16) }
-    ensures { result ≡ cursors_in lanes.now edges s b }
-{
-    if places::is_set(lanes[s * 16 + FAILS], b) {
-        return 0;
-    }
-    edges * 16
-}
-
-fn row_of(lanes: &[u16; 1024], starts: &[u16; 65], sizes: Sizes, code: usize) -> Row
-    requires { (code < 8192) × (get_or starts.now (code / 128) 0 ≤ get_or starts.now (code / 128 + 1) 0) }
-    ensures { RowIn lanes.now starts.now sizes.top code result.state result.bits result.next result.first result.end }
-{
-    let s = places::state(code);
-    let b = places::bits(code);
-    let first = places::wide(starts[s]);
-    let after = places::wide(starts[s + 1]);
-    Row {
-        state: s,
-        bits: b,
-        next: next_waiting(lanes, sizes.top, s, b, places::waiting(code)),
-        first,
-        end: cursors(lanes, after - first, s, b),
-    }
-}
-
-// The lane that is set where another is not.
-fn contrary(lane: u16) -> u16
-    ensures { result ≡ 65535 - lane }
-{
-    ONES - lane
-}
-
-// The bits that fit, cut down by temporal node number t: where the place (s, b) needs it, it is carried on as it is.
-fn narrowed(lanes: &[u16; 1024], fit: u16, s: usize, b: usize, next: usize, t: usize) -> u16
-    requires { (s < 64) × (b < 16) × (next < 64) × (t < 4) }
-    ensures { result ≡ narrowed_in lanes.now fit s b next t }
-{
-    if places::is_set(lanes[s * 16 + NEED + t], b) {
-        let lane = lanes[next * 16 + CARRY + t];
-        if b >> t & 1 == 1 {
-            return fit & lane;
-        }
-        return fit & contrary(lane);
-    }
-    fit
-}
-
-// The bits with which state `next` follows the place (s, b), as a lane.
-fn fitting(lanes: &[u16; 1024], ones: u16, s: usize, b: usize, next: usize) -> u16
-    requires { (s < 64) × (b < 16) × (next < 64) }
-    ensures { result ≡ fitting_in lanes.now ones s b next }
-{
-    let by_0 = narrowed(lanes, ones, s, b, next, 0);
-    let by_1 = narrowed(lanes, by_0, s, b, next, 1);
-    let by_2 = narrowed(lanes, by_1, s, b, next, 2);
-    narrowed(lanes, by_2, s, b, next, 3)
-}
-
-// The lowest bit from b on that is set in a lane, or 16 and more.
-fn lowest_set(lane: u16, b: usize) -> usize
-    requires { b ≤ 16 }
-    ensures { LowestSet lane b result }
-{
-    b + u32::trailing_zeros(lane as u32 >> b) as usize
-}
-
-// The lowest bits from b on that are set in `fit` and with which state s has a colour below the limit; 16 or more if there are none.
-fn scan_bits(
-    sizes: Sizes,
-    workspace: &[u16],
-    fit: u16,
-    s: usize,
-    b: usize,
+struct Row {
+    place: Place,
     next: usize,
-    limit: u16,
-) -> usize
-    requires { (sizes.guesses ≤ 16) × (sizes.top ≤ 4) × (s < 64) × (b ≤ 16) × (next < 8) × ((j : ℕ) → j < 16 → bit fit j ≡ true
-        → index_in sizes.guesses sizes.top s next j < length workspace.now) }
-    ensures { LowestUnder fit (λ (j : ℕ). get_or workspace.now (index_in sizes.guesses sizes.top s next j) 0) limit b result }
-{
-    let mut b2 = lowest_set(fit, b);
-    while b2 < 16 {
-        if workspace[places::number(sizes, s, b2, next)] < limit {
-            return b2;
-        }
-        b2 = lowest_set(fit, b2 + 1);
-    }
-    b2
+    first: usize,
+    end: usize,
 }
 
-// The lowest cursor from this one on whose candidate has a colour below the limit.
-fn scan(
-    edges: &[u8],
-    lanes: &[u16; 1024],
-    sizes: Sizes,
-    workspace: &[u16],
-    row: Row,
-    cursor: usize,
-    limit: u16,
-) -> Found
-    requires { Scannable (line_of edges.now lanes.now sizes.guesses sizes.ones sizes.top row.state row.bits
-        row.next row.first) workspace.now row.end }
-    ensures found { (found code : ℕ) → result ≡ Found.At found code
-        → Stops (line_of edges.now lanes.now sizes.guesses sizes.ones sizes.top row.state row.bits
-        row.next row.first) workspace.now limit row.end cursor found code }
-    ensures nothing { result ≡ Found.Nothing
-        → Passed (line_of edges.now lanes.now sizes.guesses sizes.ones sizes.top row.state row.bits
-        row.next row.first) workspace.now limit cursor row.end }
+// The lowest bit from b on that is set in a lane.
+#[tactic(auto, using(workspace::proofs::Trailing::clear_from, workspace::proofs::Trailing::set_from))]
+fn lowest_set(lane: u16, b: usize) -> Option<usize>
+    requires { b ≤ 16 }
+    ensures { MatchOption result (Clear lane b 16) (λ r. LowestSet lane b r) }
 {
-    let first = row.first;
-    let end = row.end;
-    let mut c = cursor;
-    while c < end {
-        let edge = c / 16;
-        let s = parts::end(edges, first + edge, parts::TO);
-        let fit = fitting(lanes, sizes.ones, row.state, row.bits, s);
-        let b = scan_bits(sizes, workspace, fit, s, c % 16, row.next, limit);
-        if b < 16 {
-            return Found::At {
-                cursor: edge * 16 + b,
-                code: places::code(s, b, row.next),
+    let lowest = b + u32::trailing_zeros(lane as u32 >> b) as usize;
+    if lowest < 16 { Some(lowest) } else { None }
+}
+
+// What a scan goes by: a case's edges, its lanes, where each state's edges start, and its sizes.
+#[derive(Clone, Copy)]
+pub struct Setting<'a> {
+    pub edges: &'a [u8],
+    pub lanes: &'a [u16; 1024],
+    pub starts: &'a [u16; 65],
+    pub sizes: Sizes,
+}
+
+impl Setting<'_> {
+    // The waiting number after a place.
+    fn next_waiting(&self, place: Place) -> usize
+        ensures { result ≡ next_in self.now.lanes.now self.now.sizes.top place.state place.bits place.waiting }
+    {
+        if self.sizes.top <= place.waiting {
+            return 0;
+        }
+        if places::is_set(
+            self.lanes[place.state * 16 + MET + place.waiting],
+            place.bits,
+        ) {
+            return place.waiting + 1;
+        }
+        place.waiting
+    }
+
+    // Where the cursors of a place end whose state has so many edges: 16 for each of them, or none where nothing follows.
+    fn cursors(&self, edges: usize, place: Place) -> usize
+        requires { edges < 65536 }
+        ensures { result ≡ cursors_in self.now.lanes.now edges place.state place.bits }
+    {
+        if places::is_set(self.lanes[place.state * 16 + FAILS], place.bits) {
+            return 0;
+        }
+        edges * 16
+    }
+
+    // The cursors of the place that a code stands for.
+    fn row_of(&self, code: usize) -> Row
+        requires coded { code < 8192 }
+        requires rises { get_or self.now.starts.now (code / 128) 0 ≤ get_or self.now.starts.now (code / 128 + 1) 0 }
+        ensures { RowIn self.now.lanes.now self.now.starts.now self.now.sizes.top code result.place.state result.place.bits result.next result.first result.end }
+    {
+        let place = Place::decode(code);
+        let first = usize::from(self.starts[place.state]);
+        let after = usize::from(self.starts[place.state + 1]);
+        Row {
+            place,
+            next: self.next_waiting(place),
+            first,
+            end: self.cursors(after - first, place),
+        }
+    }
+
+    // The bits that fit, cut down by temporal node number t: where the place needs it, it is carried on as it is.
+    #[tactic(auto, unfolding(workspace::proofs::Scanning::narrowed_in))]
+    fn narrowed(&self, fit: u16, place: Place, next: usize, t: usize) -> u16
+        requires next { next < 64 }
+        requires node { t < 4 }
+        ensures { result ≡ narrowed_in self.now.lanes.now fit place.state place.bits next t }
+    {
+        if places::is_set(self.lanes[place.state * 16 + NEED + t], place.bits) {
+            let lane = self.lanes[next * 16 + CARRY + t];
+            if places::is_set(place.bits as u16, t) {
+                return fit & lane;
+            }
+            return fit & !lane;
+        }
+        fit
+    }
+
+    // The bits with which state `next` follows a place, as a lane.
+    #[tactic(auto, unfolding(workspace::proofs::Scanning::fitting_in))]
+    fn fitting(&self, ones: u16, place: Place, next: usize) -> u16
+        requires { next < 64 }
+        ensures { result ≡ fitting_in self.now.lanes.now ones place.state place.bits next }
+    {
+        let mut fit = ones;
+        for t in 0..4 {
+            fit = self.narrowed(fit, place, next, t);
+        }
+        fit
+    }
+
+    // This place with the lowest bits, from its own on, that are set in `fit` and give it a colour below the limit.
+    fn scan_bits(&self, workspace: &[u16], fit: u16, from: Place, limit: u16) -> Option<Place>
+        requires { (j : ℕ) → j < 16 → bit fit j ≡ true → index_with self.now from j < length workspace.now }
+        ensures state { IfSome result (λ p. p.state ≡ from.state) }
+        ensures waiting { IfSome result (λ p. p.waiting ≡ from.waiting) }
+        ensures lowest { let colour = colour_with self.now workspace.now from in
+            MatchOption result (Spared fit colour limit from.bits 16) (λ p. LowestUnder fit colour limit from.bits p.bits) }
+    {
+        // From set bit to set bit: a `for` over all bits, tried again, makes the whole search slower by an eighth.
+        let mut b = from.bits;
+        while let Some(bits) = lowest_set(fit, b) {
+            let place = Place {
+                state: from.state,
+                bits,
+                waiting: from.waiting,
             };
+            if workspace[self.sizes.number(place)] < limit {
+                return Some(place);
+            }
+            b = bits + 1;
         }
-        c = edge * 16 + 16;
+        None
     }
-    Found::Nothing
-}
 
-// Scans on from the top of the stack that starts at `base` and has `depth` places.
-pub fn scan_top(
-    edges: &[u8],
-    lanes: &[u16; 1024],
-    starts: &[u16; 65],
-    sizes: Sizes,
-    workspace: &[u16],
-    base: usize,
-    depth: usize,
-    limit: u16,
-) -> Found
-    requires { (c : Setting edges.now lanes.now starts.now sizes.guesses sizes.ones sizes.top sizes.places)
-        × Topped c.parts workspace.now base depth }
-    ensures found { (c : Setting edges.now lanes.now starts.now sizes.guesses sizes.ones
-        sizes.top sizes.places) → Topped c.parts workspace.now base depth → (cursor code : ℕ) → result ≡ Found.At cursor code
-        → Coded c.parts code × ScanFinds c workspace.now base depth limit cursor code }
-    ensures nothing { (c : Setting edges.now lanes.now starts.now sizes.guesses sizes.ones
-        sizes.top sizes.places) → Topped c.parts workspace.now base depth → result ≡ Found.Nothing
-        → ScanSkips c workspace.now base depth limit }
-{
-    let code = places::wide(workspace[base + depth - 1]);
-    let cursor = places::wide(workspace[base + sizes.places + depth - 1]);
-    let row = row_of(lanes, starts, sizes, code);
-    scan(edges, lanes, sizes, workspace, row, cursor, limit)
+    // The lowest cursor from this one on whose candidate has a colour below the limit.
+    fn scan(&self, workspace: &[u16], row: Row, cursor: usize, limit: u16) -> Option<Candidate>
+        requires { Scannable (line self.now row) workspace.now row.end }
+        ensures { MatchOption result (Passed (line self.now row) workspace.now limit cursor row.end)
+            (λ found. Stops (line self.now row) workspace.now limit row.end cursor found.cursor found.code) }
+    {
+        let mut bits = cursor % 16;
+        for edge in cursor / 16..row.end / 16 {
+            let state = parts::edge_at(self.edges, row.first + edge).to;
+            let fit = self.fitting(self.sizes.ones, row.place, state);
+            let from = Place {
+                state,
+                bits,
+                waiting: row.next,
+            };
+            if let Some(place) = self.scan_bits(workspace, fit, from, limit) {
+                return Some(Candidate {
+                    cursor: edge * 16 + place.bits,
+                    code: place.code(),
+                });
+            }
+            bits = 0;
+        }
+        None
+    }
+
+    // Scans on from the top of the stack that starts at `base` and has `depth` places. Inlined, since each of its two callers has a limit
+    // of its own: as a call it makes the whole search slower by a sixth.
+    #[inline(always)]
+    pub fn scan_top(
+        &self,
+        workspace: &[u16],
+        base: usize,
+        depth: usize,
+        limit: u16,
+    ) -> Option<Candidate>
+        requires { (c : OfCase self.now) × Topped c.parts workspace.now base depth }
+        ensures found { (c : OfCase self.now) → Topped c.parts workspace.now base depth → (found : Candidate) → result ≡ Some found
+            → Coded c.parts found.code × ScanFinds c workspace.now base depth limit found.cursor found.code }
+        ensures nothing { (c : OfCase self.now) → Topped c.parts workspace.now base depth → result ≡ None
+            → ScanSkips c workspace.now base depth limit }
+    {
+        let code = usize::from(workspace[base + depth - 1]);
+        let cursor = usize::from(workspace[base + self.sizes.places + depth - 1]);
+        self.scan(workspace, self.row_of(code), cursor, limit)
+    }
 }

@@ -1,19 +1,7 @@
-// Places as the stacks hold them: s * 128 + b * 8 + w, which comes apart by shifts. The colours are by the place's number.
+// Places as the stacks hold them, and their numbers: the colours are by the place's number.
 ghost use Rattle.std.specs.Prelude.{◌≡◌, leb, ◌+◌, ◌-◌, ◌*◌, ◌/◌, ◌%◌, ◌^◌, ◌≤◌, ◌<◌};
 ghost use Rattle.bits.specs.Bits.{bit};
 ghost use Rattle.workspace.proofs.Setting.{code_of, number_in};
-ghost use Rattle.workspace.proofs.Roots.{Rooting, root_at};
-
-use reading::parts;
-
-// What the numbering needs: 2 to the power T, the lane of as many ones, E, and P.
-#[derive(Clone, Copy)]
-pub struct Sizes {
-    pub guesses: usize,
-    pub ones: u16,
-    pub top: usize,
-    pub places: usize,
-}
 
 // The lane of the lowest n ones, for n up to 16.
 pub fn ones(n: usize) -> u16
@@ -24,6 +12,7 @@ pub fn ones(n: usize) -> u16
 }
 
 // Whether bit b of a lane is true.
+#[tactic(auto, using(bits::proofs::Bit::test_bit, bits::proofs::Bit::eqb_digit))]
 pub fn is_set(lane: u16, b: usize) -> bool
     requires { b < 16 }
     ensures { result ≡ bit lane b }
@@ -31,32 +20,21 @@ pub fn is_set(lane: u16, b: usize) -> bool
     lane >> b & 1 == 1
 }
 
-// An entry as a number that indexes.
-pub fn wide(entry: u16) -> usize
-    ensures { (result ≡ entry) × (result < 65536) }
-{
-    entry as usize
-}
-
-pub fn code(s: usize, b: usize, w: usize) -> usize
-    requires { (s < 64) × (b < 16) × (w < 8) }
-    ensures { result ≡ code_of s b w }
-{
-    s * 128 + b * 8 + w
-}
-
+// The state of the place that a code stands for.
 pub fn state(code: usize) -> usize
     ensures { result ≡ code / 128 }
 {
     code / 128
 }
 
+// Its bits.
 pub fn bits(code: usize) -> usize
     ensures { result ≡ code / 8 % 16 }
 {
     code / 8 % 16
 }
 
+// Its waiting number.
 pub fn waiting(code: usize) -> usize
     ensures { result ≡ code % 8 }
 {
@@ -73,44 +51,63 @@ pub fn is_marked(top: usize, w: usize) -> bool
     top <= w
 }
 
-// The place's number: by state, then bits, then waiting number.
-pub fn number(sizes: Sizes, s: usize, b: usize, w: usize) -> usize
-    requires { (sizes.guesses ≤ 16) × (sizes.top ≤ 4) × (s < 64) × (b < 16) × (w < 8) }
-    ensures { result ≡ (s * sizes.guesses + b) * (sizes.top + 1) + w }
-{
-    (s * sizes.guesses + b) * (sizes.top + 1) + w
+// A place. An entry of the lent workspace has 16 bits, so the stacks hold it as one number, its code.
+#[derive(Clone, Copy)]
+pub struct Place {
+    pub state: usize,
+    pub bits: usize,
+    pub waiting: usize,
+    pub ghost state_fits: { state < 64 },
+    pub ghost bits_fit: { bits < 16 },
+    pub ghost waiting_fits: { waiting < 8 },
 }
 
-pub fn number_of(sizes: Sizes, code: usize) -> usize
-    requires { (sizes.guesses ≤ 16) × (sizes.top ≤ 4) × (code < 8192) }
-    ensures { result ≡ number_in sizes.guesses sizes.top code }
-{
-    number(sizes, state(code), bits(code), waiting(code))
+impl Place {
+    // The place that a code stands for.
+    pub(crate) fn decode(code: usize) -> Place
+        requires { code < 8192 }
+        ensures state { result.state ≡ code / 128 }
+        ensures bits { result.bits ≡ code / 8 % 16 }
+        ensures waiting { result.waiting ≡ code % 8 }
+    {
+        Place {
+            state: state(code),
+            bits: bits(code),
+            waiting: waiting(code),
+        }
+    }
+
+    pub fn code(self) -> usize
+        ensures { result ≡ code_of self.state self.bits self.waiting }
+    {
+        self.state * 128 + self.bits * 8 + self.waiting
+    }
 }
 
-// A bit that is set.
-const SET: u16 = 1;
+// What the numbering needs: 2 to the power T, the lane of as many ones, E, and P.
+#[derive(Clone, Copy)]
+pub struct Sizes {
+    pub guesses: usize,
+    pub ones: u16,
+    pub top: usize,
+    pub places: usize,
+    pub ghost guesses_fit: { guesses ≤ 16 },
+    pub ghost top_fits: { top ≤ 4 },
+}
 
-// Whether the place of state s and bits b with waiting number 0 is initial: the state is, and the rule's lane, at `last` and on, is
-// false there.
-pub fn is_initial(
-    states: &[u8],
-    last: usize,
-    rows: &[u16; 2048],
-    sizes: Sizes,
-    s: usize,
-    b: usize,
-) -> bool
-    requires { (c : Rooting states.now rows.now last sizes.guesses) × (s < c.parts.states) }
-    ensures { (c : Rooting states.now rows.now last sizes.guesses) → s < c.parts.states
-        → result ≡ root_at c.parts sizes.guesses s b }
-{
-    if sizes.guesses <= b {
-        return false;
+impl Sizes {
+    // A place's number: by state, then bits, then waiting number.
+    pub fn number(self, place: Place) -> usize
+        ensures { result ≡ (place.state * self.guesses + place.bits) * (self.top + 1) + place.waiting }
+    {
+        (place.state * self.guesses + place.bits) * (self.top + 1) + place.waiting
     }
-    let lane = rows[last + s];
-    if lane >> b & 1 == SET {
-        return false;
+
+    // The number of the place that a code stands for.
+    pub fn number_of(self, code: usize) -> usize
+        requires { code < 8192 }
+        ensures { result ≡ number_in self.guesses self.top code }
+    {
+        self.number(Place::decode(code))
     }
-    parts::initial(states, s)
 }

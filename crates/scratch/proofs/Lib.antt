@@ -3,5 +3,4 @@ pub mod Scratch
 pub mod Bits
 pub mod Stores
 pub mod Added
-pub mod Telling
-pub mod Cleared
+pub mod Entries

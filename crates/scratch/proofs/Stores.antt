@@ -1,50 +1,45 @@
 -- A loop that stores one entry a turn, upward or downward. Assumes nothing.
 use Prim.Native.Nat.{ℕ, ◌+◌, ◌-◌, ◌^◌, ◌≤◌, ◌<◌}
-use mathlib.Core.Path.{◌≡◌, refl, sym, ap, ◌∙◌, subst}
+use mathlib.Core.Path.{◌≡◌, sym, ap, ◌∙◌, subst}
 use mathlib.Core.Bool.{Bool}
 use mathlib.Core.List.{List}
 use native.Mathlib.Decide.{ℕ_discrete, dec_lt}
 use native.Mathlib.Omega.{arith}
-use lib.ListN.{length, set, length-set}
+use lib.ListN.{length, set}
 use lib.Seq.{get_or-set_same, get_or-set_other}
 use Rattle.bits.specs.Bits.{bit}
 use Rattle.bits.proofs.Number.{bit-added-below}
 use Rattle.scratch.proofs.Scratch.{at, added, Stored}
 
-pub stored_none : (i : ℕ) (f : ℕ → ℕ) (l : List ℕ) → Stored i i f l l
-stored_none i f l = record { stored = λ j h k. absurd (omega arith); under = λ j h. refl; over = λ j h. refl; size = refl }
-
 module _ {f : ℕ → ℕ} {before after : List ℕ} (v : ℕ) where
-  pub stored_up : {lo i : ℕ} → Stored lo i f before after → lo ≤ i → i < length before → v ≡ f i
+  pub stored_up : {lo i : ℕ} → Stored lo i f before after → lo ≤ i → i < length after → v ≡ f i
       → Stored lo (i + 1) f before (set after i v)
   stored_up {lo} {i} s l h e =
       record {
         stored = λ j low high. here j low high (ℕ_discrete j i);
         under = λ j low. get_or-set_other after i j v 0 (omega arith) ∙ s.under j low;
         over = λ j high. get_or-set_other after i j v 0 (omega arith) ∙ s.over j (omega arith);
-        size = length-set after i v ∙ s.size;
       }
     where
       here : (j : ℕ) → lo ≤ j → j < i + 1 → Dec (j ≡ i) → at (set after i v) j ≡ f j
       here j low high (yes p) =
           subst (λ (x : ℕ). at (set after i v) x ≡ f x) (sym p)
-          (get_or-set_same after i v 0 (omega (arith, s.size)) ∙ e)
+          (get_or-set_same after i v 0 (omega arith) ∙ e)
       here j low high (no p) = get_or-set_other after i j v 0 p ∙ s.stored j low (omega arith)
 
-  pub stored_down : {i hi : ℕ} → Stored i hi f before after → 0 < i → i ≤ hi → hi ≤ length before → v ≡ f (i - 1)
+  pub stored_down : {i hi : ℕ} → Stored i hi f before after → 0 < i → i ≤ hi → hi ≤ length after → v ≡ f (i - 1)
       → Stored (i - 1) hi f before (set after (i - 1) v)
   stored_down {i} {hi} s z l h e =
       record {
         stored = λ j low high. here j low high (ℕ_discrete j (i - 1));
         under = λ j low. get_or-set_other after (i - 1) j v 0 (omega arith) ∙ s.under j (omega arith);
         over = λ j high. get_or-set_other after (i - 1) j v 0 (omega arith) ∙ s.over j high;
-        size = length-set after (i - 1) v ∙ s.size;
       }
     where
       here : (j : ℕ) → i - 1 ≤ j → j < hi → Dec (j ≡ i - 1) → at (set after (i - 1) v) j ≡ f j
       here j low high (yes p) =
           subst (λ (x : ℕ). at (set after (i - 1) v) x ≡ f x) (sym p)
-          (get_or-set_same after (i - 1) v 0 (omega (arith, s.size)) ∙ e)
+          (get_or-set_same after (i - 1) v 0 (omega arith) ∙ e)
       here j low high (no p) = get_or-set_other after (i - 1) j v 0 p ∙ s.stored j (omega arith) high
 
 -- adding bit n moves no bit below n, wherever the loop has come to
@@ -57,17 +52,3 @@ lower_bit_kept {before} {after} {i} n b s j h x l = go (dec_lt j i)
     go (yes p) =
         ap (λ (v : ℕ). bit v x) (s.stored j (omega arith) p) ∙ bit-added-below (at before j) n (b j) h x l
     go (no p) = ap (λ (v : ℕ). bit v x) (s.over j (omega arith))
-
--- one round of stores after another
-pub stored_twice : {lo hi : ℕ} {f g : ℕ → ℕ} {a b c : List ℕ} → Stored lo hi f a b → Stored lo hi g b c → Stored lo hi g a c
-stored_twice s t =
-    record {
-      stored = t.stored;
-      under = λ i h. t.under i h ∙ s.under i h;
-      over = λ i h. t.over i h ∙ s.over i h;
-      size = t.size ∙ s.size;
-    }
-
--- what is there already
-pub stored_already : {hi : ℕ} {f : ℕ → ℕ} (l : List ℕ) → ((i : ℕ) → i < hi → at l i ≡ f i) → Stored 0 hi f l l
-stored_already l e = record { stored = λ i z h. e i h; under = λ i h. refl; over = λ i h. refl; size = refl }

@@ -1,5 +1,6 @@
 -- The night update against the outcome: with 72 and 24 entries it is violated, so neither a refusal nor holds is allowed, nor a track left as it was
 -- lent; with 71 entries it is 40 and 72; and without the edge 0 to 2 it holds. Assumes nothing.
+use Rattle.std.specs.Prelude.{Some, None, Ok, Err}
 use Prim.Native.Nat.{ℕ, zero, suc, ◌+◌, ◌-◌, ◌*◌, ◌<◌}
 use native.Mathlib.Omega.{arith}
 use mathlib.Core.Path.{◌≡◌, refl, sym, ap, ◌∙◌, subst, subst₂}
@@ -12,15 +13,14 @@ use Rattle.meaning.specs.Table.{formula_of, formulas, formula, rule}
 use Rattle.meaning.specs.Runs.{position, Run, Violates, Holds}
 use Rattle.reading.specs.Lowest.{lowest, any, count}
 use Rattle.reading.specs.Parts.{label_of, flags_of, initial_of, from_of, to_of, has_edge, node_of, operator_from, operators_from, table_of, rule_of, places}
-use Rattle.reading.specs.Refusals.{length_at, at04, parts_of, in_steps, field_refusal, out_of_range, last_refusal, fields_refusal, bad_state, bad_end, above, not_above, starts_none, unknown, first_limit, second_limit, wrong_byte, states_refusal, edges_refusal, dead_end_refusal, nodes_refusal, temporals_refusal, parts_refusal, refusal}
+use Rattle.reading.specs.Refusals.{Check, length_at, at04, parts_of, in_steps, field_refusal, out_of_range, last_refusal, fields_refusal, bad_state, bad_end, above, not_above, starts_none, unknown, first_limit, second_limit, wrong_byte, states_refusal, edges_refusal, dead_end_refusal, nodes_refusal, temporals_refusal, parts_refusal, refusal}
 use Rattle.reading.specs.Night.{night}
-use Rattle.reading.specs.declared.Check.{Check}
 use Rattle.reading.proofs.Examples.{night_passes, night_places}
 use Rattle.meaning.proofs.Positions.{position_below}
 use Rattle.graph.proofs.Lists.{blank}
-use Rattle.search.specs.Answers.{number, place, stem, loop}
+use Rattle.search.specs.Answers.{SearchAnswer, number, place, stem, loop}
 use Rattle.search.specs.Outcome.{workspace_needs, track_needs, Refuses, Decides, Searches, Reads, Searched}
-use Rattle.search.specs.declared.SearchAnswer.{SearchAnswer}
+use Rattle.search.specs.declared.SearchRefusal.{SearchRefusal}
 use Rattle.search.proofs.Outcomes.{searched_decides, decides_exactly}
 
 -- ---- violated
@@ -55,11 +55,9 @@ night_does_not_hold h = h (0 ∷ 2 ∷ []) 1 1 night_violates
 -- every allowed outcome is violated, with a run in the track that violates with the answer's own k and m
 violated : (ws track : List ℕ) (answer : SearchAnswer) (ws' track' : List ℕ) → Decides (parts_of night) ws track answer ws' track'
     → (number answer ≡ 1) × Violates (table_of (parts_of night)) (rule_of (parts_of night)) track' (stem answer) (loop answer)
-violated ws track (SearchAnswer.Refused r) ws' track' d = absurd d
-violated ws track (SearchAnswer.Workspace n) ws' track' d = absurd d
-violated ws track (SearchAnswer.Track n) ws' track' d = absurd d
-violated ws track SearchAnswer.Holds ws' track' d = absurd (night_does_not_hold d.holds)
-violated ws track (SearchAnswer.Violated k m) ws' track' d = (refl, d.violates)
+violated ws track (Ok None) ws' track' d = absurd (night_does_not_hold d.holds)
+violated ws track (Ok (Some run)) ws' track' d = (refl, d.violates)
+violated ws track (Err r) ws' track' d = absurd d
 
 pub night_violated : (ws track : List ℕ) (answer : SearchAnswer) (ws' track' : List ℕ) → length ws ≡ 72 → length track ≡ 24
     → Searched night ws track answer ws' track'
@@ -86,7 +84,7 @@ pub night_short : (ws track : List ℕ) (answer : SearchAnswer) (ws' track' : Li
     → (number answer ≡ 40) × (place answer ≡ 72)
 unfolding Searched
 night_short ws track answer ws' track' w s =
-    let r : Refuses ws track answer ws' track' (SearchAnswer.Workspace (workspace_needs (parts_of night))) =
+    let r : Refuses ws track answer ws' track' (SearchRefusal.Workspace (workspace_needs (parts_of night))) =
     subst (λ (b : mathlib.Core.Bool.Bool). Searches b (lib.Dec.ltb (length track) (track_needs (parts_of night))) (parts_of night) ws track answer ws' track')
     (borrow.Author.Tests.lt-ltb (length ws) (workspace_needs (parts_of night)) (omega (arith, night_places)))
     (subst (λ (c : Check). Reads c (parts_of night) ws track answer ws' track') night_passes s) in
@@ -100,7 +98,7 @@ night_without =
     ∷ 0x03 ∷ 0x06 ∷ 0x00 ∷ 0x00 ∷ 0x01 ∷ 0x01 ∷ 0x01 ∷ 0x02 ∷ 0x02
     ∷ 0x04 ∷ 0x0C ∷ 0x00 ∷ 0x01 ∷ 0x01 ∷ 0x00 ∷ 0x01 ∷ 0x00 ∷ 0x00 ∷ 0x05 ∷ 0x00 ∷ 0x01 ∷ 0x08 ∷ 0x02 ∷ 0x00 ∷ []
 
-without_passes : refusal night_without ≡ Check.Passed
+without_passes : refusal night_without ≡ Ok tt
 unfolding lowest any count label_of flags_of from_of to_of node_of operator_from operators_from length_at at04 parts_of in_steps field_refusal out_of_range last_refusal fields_refusal bad_state bad_end above not_above starts_none unknown first_limit second_limit wrong_byte states_refusal edges_refusal dead_end_refusal nodes_refusal temporals_refusal parts_refusal refusal night_without
 without_passes = refl
 

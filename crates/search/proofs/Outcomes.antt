@@ -1,5 +1,6 @@
 -- What the search's outcome leaves open, and what it rules out: the verdict is holds exactly when the rule holds; two outcomes for one input
 -- agree in all but the run, k and m. Assumes nothing.
+use Rattle.std.specs.Prelude.{Some, None, Ok, Err}
 use Prim.Native.Nat.{ℕ, ◌≤◌}
 use native.Mathlib.Omega.{arith}
 use mathlib.Core.Path.{◌≡◌, refl, sym, ap, ◌∙◌, subst}
@@ -11,23 +12,22 @@ use lib.ListN.{length}
 use borrow.Author.Tests.{le-ltb}
 use Rattle.meaning.specs.Runs.{Holds}
 use Rattle.reading.specs.Parts.{Parts, table_of, rule_of}
-use Rattle.reading.specs.Refusals.{parts_of, refusal}
-use Rattle.reading.specs.declared.Check.{Check}
+use Rattle.reading.specs.Refusals.{Check, parts_of, refusal}
 use Rattle.reading.specs.declared.CaseRefusal.{CaseRefusal}
-use Rattle.search.specs.Answers.{number, place}
+use Rattle.search.specs.Answers.{SearchAnswer, number, place}
 use Rattle.search.specs.Outcome.{workspace_needs, track_needs, Refuses, Decides, Searches, Reads, Searched}
-use Rattle.search.specs.declared.SearchAnswer.{SearchAnswer}
+use Rattle.search.specs.declared.SearchRefusal.{SearchRefusal}
 
 -- ---- from the parts to the whole
 
-pub searched_refused : (bytes ws track : List ℕ) (r : CaseRefusal) → refusal bytes ≡ Check.Refused r
-    → Searched bytes ws track (SearchAnswer.Refused r) ws track
+pub searched_refused : (bytes ws track : List ℕ) (r : CaseRefusal) → refusal bytes ≡ Err r
+    → Searched bytes ws track (Err (SearchRefusal.Case r)) ws track
 unfolding Searched
 searched_refused bytes ws track r e =
-    subst (λ (c : Check). Reads c (parts_of bytes) ws track (SearchAnswer.Refused r) ws track) (sym e)
+    subst (λ (c : Check). Reads c (parts_of bytes) ws track (Err (SearchRefusal.Case r)) ws track) (sym e)
     (record { answered = refl; workspace_as_lent = refl; track_as_lent = refl })
 
-pub searched_read : (bytes ws track : List ℕ) (answer : SearchAnswer) (ws' track' : List ℕ) → refusal bytes ≡ Check.Passed
+pub searched_read : (bytes ws track : List ℕ) (answer : SearchAnswer) (ws' track' : List ℕ) → refusal bytes ≡ Ok tt
     → Searches (ltb (length ws) (workspace_needs (parts_of bytes))) (ltb (length track) (track_needs (parts_of bytes))) (parts_of bytes) ws track answer ws' track'
     → Searched bytes ws track answer ws' track'
 unfolding Searched
@@ -35,7 +35,7 @@ searched_read bytes ws track answer ws' track' e s =
     subst (λ (c : Check). Reads c (parts_of bytes) ws track answer ws' track') (sym e) s
 
 -- a case that is read, with room enough, is decided
-pub searched_decides : (bytes ws track : List ℕ) (answer : SearchAnswer) (ws' track' : List ℕ) → refusal bytes ≡ Check.Passed
+pub searched_decides : (bytes ws track : List ℕ) (answer : SearchAnswer) (ws' track' : List ℕ) → refusal bytes ≡ Ok tt
     → workspace_needs (parts_of bytes) ≤ length ws → track_needs (parts_of bytes) ≤ length track
     → Searched bytes ws track answer ws' track' → Decides (parts_of bytes) ws track answer ws' track'
 unfolding Searched
@@ -48,11 +48,9 @@ searched_decides bytes ws track answer ws' track' e l h s =
 
 pub decides_exactly : (p : Parts) (ws track : List ℕ) (answer : SearchAnswer) (ws' track' : List ℕ) → Decides p ws track answer ws' track'
     → (number answer ≡ 0) ↔ Holds (table_of p) (rule_of p)
-decides_exactly p ws track (SearchAnswer.Refused r) ws' track' d = absurd d
-decides_exactly p ws track (SearchAnswer.Workspace n) ws' track' d = absurd d
-decides_exactly p ws track (SearchAnswer.Track n) ws' track' d = absurd d
-decides_exactly p ws track SearchAnswer.Holds ws' track' d = (λ e. d.holds, λ h. refl)
-decides_exactly p ws track (SearchAnswer.Violated k m) ws' track' d = (λ e. absurd (omega arith), λ h. absurd (h track' k m d.violates))
+decides_exactly p ws track (Ok None) ws' track' d = (λ e. d.holds, λ h. refl)
+decides_exactly p ws track (Ok (Some run)) ws' track' d = (λ e. absurd (omega arith), λ h. absurd (h track' run.stem run.repeat d.violates))
+decides_exactly p ws track (Err r) ws' track' d = absurd d
 
 -- ---- two outcomes
 
@@ -66,7 +64,7 @@ pub record Agree (a b : SearchAnswer) (ws₁ track₁ ws₂ track₂ : List ℕ)
   pub same_track : (number a ≡ 1 → ⊥) → track₁ ≡ track₂
 
 module _ {ws track : List ℕ} {a b : SearchAnswer} {ws₁ track₁ ws₂ track₂ : List ℕ} where
-  refuse_agree : {r : SearchAnswer} → Refuses ws track a ws₁ track₁ r → Refuses ws track b ws₂ track₂ r → Agree a b ws₁ track₁ ws₂ track₂
+  refuse_agree : {r : SearchRefusal} → Refuses ws track a ws₁ track₁ r → Refuses ws track b ws₂ track₂ r → Agree a b ws₁ track₁ ws₂ track₂
   refuse_agree f g =
       let same : a ≡ b = f.answered ∙ sym g.answered in
       let tracks : track₁ ≡ track₂ = f.track_as_lent ∙ sym g.track_as_lent in
@@ -81,13 +79,7 @@ module _ {ws track : List ℕ} {a b : SearchAnswer} {ws₁ track₁ ws₂ track�
 
 decide_agree : (p : Parts) (ws track : List ℕ) (a b : SearchAnswer) (ws₁ track₁ ws₂ track₂ : List ℕ) → Decides p ws track a ws₁ track₁
     → Decides p ws track b ws₂ track₂ → Agree a b ws₁ track₁ ws₂ track₂
-decide_agree p ws track (SearchAnswer.Refused r) b ws₁ track₁ ws₂ track₂ f g = absurd f
-decide_agree p ws track (SearchAnswer.Workspace n) b ws₁ track₁ ws₂ track₂ f g = absurd f
-decide_agree p ws track (SearchAnswer.Track n) b ws₁ track₁ ws₂ track₂ f g = absurd f
-decide_agree p ws track SearchAnswer.Holds (SearchAnswer.Refused r) ws₁ track₁ ws₂ track₂ f g = absurd g
-decide_agree p ws track SearchAnswer.Holds (SearchAnswer.Workspace n) ws₁ track₁ ws₂ track₂ f g = absurd g
-decide_agree p ws track SearchAnswer.Holds (SearchAnswer.Track n) ws₁ track₁ ws₂ track₂ f g = absurd g
-decide_agree p ws track SearchAnswer.Holds SearchAnswer.Holds ws₁ track₁ ws₂ track₂ f g =
+decide_agree p ws track (Ok None) (Ok None) ws₁ track₁ ws₂ track₂ f g =
     let tracks = f.track_untouched ∙ sym g.track_untouched in
     record {
       same_number = refl;
@@ -97,12 +89,10 @@ decide_agree p ws track SearchAnswer.Holds SearchAnswer.Holds ws₁ track₁ ws�
       same_answer = λ n. refl;
       same_track = λ n. tracks;
     }
-decide_agree p ws track SearchAnswer.Holds (SearchAnswer.Violated k m) ws₁ track₁ ws₂ track₂ f g = absurd (f.holds track₂ k m g.violates)
-decide_agree p ws track (SearchAnswer.Violated k m) (SearchAnswer.Refused r) ws₁ track₁ ws₂ track₂ f g = absurd g
-decide_agree p ws track (SearchAnswer.Violated k m) (SearchAnswer.Workspace n) ws₁ track₁ ws₂ track₂ f g = absurd g
-decide_agree p ws track (SearchAnswer.Violated k m) (SearchAnswer.Track n) ws₁ track₁ ws₂ track₂ f g = absurd g
-decide_agree p ws track (SearchAnswer.Violated k m) SearchAnswer.Holds ws₁ track₁ ws₂ track₂ f g = absurd (g.holds track₁ k m f.violates)
-decide_agree p ws track (SearchAnswer.Violated k m) (SearchAnswer.Violated i j) ws₁ track₁ ws₂ track₂ f g = record {
+decide_agree p ws track (Ok None) (Ok (Some run)) ws₁ track₁ ws₂ track₂ f g = absurd (f.holds track₂ run.stem run.repeat g.violates)
+decide_agree p ws track (Ok None) (Err r) ws₁ track₁ ws₂ track₂ f g = absurd g
+decide_agree p ws track (Ok (Some run)) (Ok None) ws₁ track₁ ws₂ track₂ f g = absurd (g.holds track₁ run.stem run.repeat f.violates)
+decide_agree p ws track (Ok (Some run)) (Ok (Some other)) ws₁ track₁ ws₂ track₂ f g = record {
   same_number = refl;
   same_place = refl;
   same_workspace = f.workspace_cleared ∙ sym g.workspace_cleared;
@@ -110,6 +100,8 @@ decide_agree p ws track (SearchAnswer.Violated k m) (SearchAnswer.Violated i j) 
   same_answer = λ n. absurd (n refl);
   same_track = λ n. absurd (n refl);
 }
+decide_agree p ws track (Ok (Some run)) (Err r) ws₁ track₁ ws₂ track₂ f g = absurd g
+decide_agree p ws track (Err r) b ws₁ track₁ ws₂ track₂ f g = absurd f
 
 pub searched_agree : (bytes ws track : List ℕ) (a b : SearchAnswer) (ws₁ track₁ ws₂ track₂ : List ℕ)
     → Searched bytes ws track a ws₁ track₁ → Searched bytes ws track b ws₂ track₂ → Agree a b ws₁ track₁ ws₂ track₂
@@ -123,5 +115,5 @@ searched_agree bytes ws track a b ws₁ track₁ ws₂ track₂ f g =
     searches false false f g = decide_agree (parts_of bytes) ws track a b ws₁ track₁ ws₂ track₂ f g
 
     reads : (c : Check) → Reads c (parts_of bytes) ws track a ws₁ track₁ → Reads c (parts_of bytes) ws track b ws₂ track₂ → Agree a b ws₁ track₁ ws₂ track₂
-    reads (Check.Refused r) f g = refuse_agree f g
-    reads Check.Passed f g = searches (ltb (length ws) (workspace_needs (parts_of bytes))) (ltb (length track) (track_needs (parts_of bytes))) f g
+    reads (Err r) f g = refuse_agree f g
+    reads (Ok _) f g = searches (ltb (length ws) (workspace_needs (parts_of bytes))) (ltb (length track) (track_needs (parts_of bytes))) f g

@@ -1,11 +1,11 @@
 -- The outcome of a search: "a case, a workspace and a track, both of 16-bit entries". A relation between what was lent, the answer, and what
 -- stands in the workspace and the track afterwards.
-use Rattle.std.specs.Prelude.{ℕ, ◌+◌, ◌*◌, ◌≡◌, Bool, true, false, List, ◌++◌, ltb, length, drop, replicate}
+use Rattle.std.specs.Prelude.{ℕ, ◌+◌, ◌*◌, ◌≡◌, Bool, true, false, List, ◌++◌, ltb, length, drop, replicate, Some, None, Ok, Err}
 use Rattle.meaning.specs.Runs.{Violates, Holds}
 use Rattle.reading.specs.Parts.{Parts, table_of, rule_of, places}
-use Rattle.reading.specs.Refusals.{parts_of, refusal}
-use Rattle.reading.specs.declared.Check.{Check}
-use Rattle.search.specs.declared.SearchAnswer.{SearchAnswer}
+use Rattle.reading.specs.Refusals.{Check, parts_of, refusal}
+use Rattle.search.specs.Answers.{SearchAnswer}
+use Rattle.search.specs.declared.SearchRefusal.{SearchRefusal}
 
 -- "With P = S · 2^T · (E+1), the workspace needs 6·P entries and the track 2·P"
 abbrev pub workspace_needs : Parts → ℕ
@@ -20,8 +20,8 @@ cleared p workspace = replicate (workspace_needs p) 0 ++ drop (workspace_needs p
 
 module _ (workspace track : List ℕ) (answer : SearchAnswer) (workspace' track' : List ℕ) where
   -- a refusal is given "and writes nothing"
-  pub record Refuses (refusal : SearchAnswer) : Type 0 where
-    pub answered : answer ≡ refusal
+  pub record Refuses (refusal : SearchRefusal) : Type 0 where
+    pub answered : answer ≡ Err refusal
     pub workspace_as_lent : workspace' ≡ workspace
     pub track_as_lent : track' ≡ track
 
@@ -40,25 +40,23 @@ pub record HasBroken (p : Parts) (workspace track workspace' track' : List ℕ) 
 
 -- the verdict, with room enough: holds or violated, and no other answer
 abbrev pub Decides : Parts → List ℕ → List ℕ → SearchAnswer → List ℕ → List ℕ → Type 0
-Decides p workspace track (SearchAnswer.Refused r) workspace' track' = ⊥
-Decides p workspace track (SearchAnswer.Workspace entries) workspace' track' = ⊥
-Decides p workspace track (SearchAnswer.Track entries) workspace' track' = ⊥
-Decides p workspace track SearchAnswer.Holds workspace' track' = HasHeld p workspace track workspace' track'
-Decides p workspace track (SearchAnswer.Violated k m) workspace' track' = HasBroken p workspace track workspace' track' k m
+Decides p workspace track (Ok None) workspace' track' = HasHeld p workspace track workspace' track'
+Decides p workspace track (Ok (Some run)) workspace' track' = HasBroken p workspace track workspace' track' run.stem run.repeat
+Decides p workspace track (Err r) workspace' track' = ⊥
 
 -- "Then, for the search, 40 and 41": the workspace is too short, the track is, or there is room enough
 abbrev pub Searches : Bool → Bool → Parts → List ℕ → List ℕ → SearchAnswer → List ℕ → List ℕ → Type 0
 Searches true short p workspace track answer workspace' track' =
-    Refuses workspace track answer workspace' track' (SearchAnswer.Workspace (workspace_needs p))
+    Refuses workspace track answer workspace' track' (SearchRefusal.Workspace (workspace_needs p))
 Searches false true p workspace track answer workspace' track' =
-    Refuses workspace track answer workspace' track' (SearchAnswer.Track (track_needs p))
+    Refuses workspace track answer workspace' track' (SearchRefusal.Track (track_needs p))
 Searches false false p workspace track answer workspace' track' = Decides p workspace track answer workspace' track'
 
 -- the case is refused, or it is searched
 abbrev pub Reads : Check → Parts → List ℕ → List ℕ → SearchAnswer → List ℕ → List ℕ → Type 0
-Reads (Check.Refused r) p workspace track answer workspace' track' =
-    Refuses workspace track answer workspace' track' (SearchAnswer.Refused r)
-Reads Check.Passed p workspace track answer workspace' track' =
+Reads (Err r) p workspace track answer workspace' track' =
+    Refuses workspace track answer workspace' track' (SearchRefusal.Case r)
+Reads (Ok _) p workspace track answer workspace' track' =
     Searches (ltb (length workspace) (workspace_needs p)) (ltb (length track) (track_needs p)) p workspace track answer workspace' track'
 
 -- the whole outcome: the case's bytes, what was lent, the answer, and what stands there afterwards

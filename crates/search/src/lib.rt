@@ -2,135 +2,189 @@
 // violated with a looping run in the track.
 #![tactic(auto)]
 
-ghost use Rattle.std.specs.Prelude.{◌≡◌, List, ltb, ℕ, ◌+◌, ◌-◌, ◌*◌, ◌≤◌, ◌<◌, length, get_or};
-ghost use Rattle.reading.specs.Parts.{places as places_of};
-ghost use Rattle.reading.specs.Refusals.{parts_of, case_of};
-ghost use Rattle.reading.specs.declared.Case.{Case};
+ghost use Rattle.std.specs.Prelude.{◌≡◌, List, ltb, ℕ, ◌-◌, ◌*◌, ◌^◌, ◌≤◌, ◌<◌, length, get_or};
+ghost use Rattle.reading.specs.Parts.{temporals, eventualities, places as places_of};
+ghost use Rattle.reading.specs.Refusals.{parts_of};
 ghost use Rattle.workspace.proofs.Views.{Kept};
-ghost use Rattle.meaning.proofs.Folds.{Folds};
-ghost use Rattle.workspace.proofs.Tracks.{Stands, Lowest, run_in, Stacked, Wrote};
-ghost use Rattle.search.specs.Outcome.{Searched, Searches, Decides, workspace_needs, track_needs, cleared};
+ghost use Rattle.workspace.proofs.ViewsIn.{MetIn};
+ghost use Rattle.scans.specs.Cases.{OfCase};
+ghost use Rattle.search.specs.Answers.{search_number, search_place};
+ghost use Rattle.search.specs.Outcome.{Searched, Searches, Decides, HasBroken, workspace_needs, track_needs, cleared};
 
-use reading::{Case, CaseRefusal, Shape, parts};
-use scans::places;
+use reading::parts::Case;
+use reading::{CaseRefusal, parts};
 use scans::places::Sizes;
+use scans::roots::Roots;
+use scans::{Setting, places};
+use std::ops::ControlFlow;
+use tracks::Run;
 
 pub mod turns;
 
-// The search's answer: the case's refusal; the entries that the workspace or the track needs; holds; or violated, with k and m.
+use turns::{Hit, Plan};
+
+// A run that breaks the rule: its first states, `stem` and `repeat` together, stand in the track, and the last `repeat` of them go
+// round.
 #[derive(Clone, Copy)]
-pub enum SearchAnswer {
-    Refused(CaseRefusal),
-    Workspace(usize),
-    Track(usize),
-    Holds,
-    Violated { stem: usize, repeat: usize },
+pub struct Lasso {
+    pub stem: usize,
+    pub repeat: usize,
 }
 
-use turns::Hit;
+// Why there is no verdict: the case is refused, or the workspace or the track is shorter than the entries that it needs.
+#[derive(Clone, Copy)]
+pub enum SearchRefusal {
+    Case(CaseRefusal),
+    Workspace(usize),
+    Track(usize),
+}
 
-// Looks for a run that breaks the rule of a case.
-pub fn search(bytes: &[u8], workspace: &mut [u16], track: &mut [u16]) -> SearchAnswer
+impl SearchRefusal {
+    // The row of a refusal.
+    pub fn number(self) -> usize
+        ensures { result ≡ search_number self }
+    {
+        match self {
+            SearchRefusal::Case(r) => r.number(),
+            SearchRefusal::Workspace(_) => 40,
+            SearchRefusal::Track(_) => 41,
+        }
+    }
+
+    // The place that a refusal gives.
+    pub fn place(self) -> usize
+        ensures { result ≡ search_place self }
+    {
+        match self {
+            SearchRefusal::Case(r) => r.place(),
+            SearchRefusal::Workspace(entries) | SearchRefusal::Track(entries) => entries,
+        }
+    }
+}
+
+impl From<CaseRefusal> for SearchRefusal {
+    ghost use Rattle.search.specs.declared.SearchRefusal.TheVariants.{Case as refused};
+
+    ghost from_gives = { λ r e. e ≡ refused r };
+
+    fn from(r: CaseRefusal) -> Self {
+        Self::Case(r)
+    }
+}
+
+// Looks for a run that breaks the rule of a case: none if it holds.
+pub fn search(
+    bytes: &[u8],
+    workspace: &mut [u16],
+    track: &mut [u16],
+) -> Result<Option<Lasso>, SearchRefusal>
     ensures { Searched bytes.now workspace.old track.old result workspace.new track.new }
 {
-    match reading::admit(bytes) {
-        Case::Refused(r) => SearchAnswer::Refused(r),
-        Case::Admitted(shape) => search_admitted(bytes, shape, workspace, track),
-    }
+    let case = reading::admit(bytes)?;
+    search_admitted(&case, workspace, track)
 }
 
 // Looks for one in a case that was read: refuses too little room, and clears the workspace before and after.
 fn search_admitted(
-    bytes: &[u8],
-    shape: Shape,
+    case: &Case,
     workspace: &mut [u16],
     track: &mut [u16],
-) -> SearchAnswer
-    requires { case_of bytes.now ≡ Case.Admitted shape }
-    ensures { Searches (ltb (length workspace.old) (workspace_needs (parts_of bytes.now))) (ltb (length track.old) (track_needs (parts_of bytes.now))) (parts_of bytes.now) workspace.old track.old result workspace.new track.new }
+) -> Result<Option<Lasso>, SearchRefusal>
+    ensures { let p = parts_of case.now.bytes.now in
+        Searches (ltb (length workspace.old) (workspace_needs p)) (ltb (length track.old) (track_needs p)) p
+        workspace.old track.old result workspace.new track.new }
 {
-    let places = parts::places(shape);
+    let places = sizes_of(case).places;
     let needed = 6 * places;
     if workspace.len() < needed {
-        return SearchAnswer::Workspace(needed);
+        return Err(SearchRefusal::Workspace(needed));
     }
     let track_needed = 2 * places;
     if track.len() < track_needed {
-        return SearchAnswer::Track(track_needed);
+        return Err(SearchRefusal::Track(track_needed));
     }
     tracks::clear(workspace, needed);
-    let answer = verdict(bytes, shape, places, workspace, track);
+    let found = verdict(case, workspace, track);
     tracks::clear(workspace, needed);
-    answer
+    Ok(found)
+}
+
+// What the numbering of a case's places needs.
+fn sizes_of(case: &Case) -> Sizes
+    ensures guesses { result.guesses ≡ 2 ^ temporals (parts_of case.now.bytes.now) }
+    ensures ones { result.ones ≡ 2 ^ result.guesses - 1 }
+    ensures top { result.top ≡ eventualities (parts_of case.now.bytes.now) }
+    ensures places { result.places ≡ places_of (parts_of case.now.bytes.now) }
+{
+    let shape = case.shape;
+    let guesses = parts::guesses(shape.temporals);
+    Sizes {
+        guesses,
+        ones: places::ones(guesses),
+        top: shape.eventualities,
+        places: parts::places(shape),
+    }
 }
 
 // The verdict on a case, with the run in the track if it is violated. The workspace's first entries are 0 before; it is left as the
 // search left it.
-fn verdict(
-    bytes: &[u8],
-    shape: Shape,
-    places: usize,
-    workspace: &mut [u16],
-    track: &mut [u16],
-) -> SearchAnswer
-    requires read { case_of bytes.now ≡ Case.Admitted shape }
-    requires sized { places ≡ places_of (parts_of bytes.now) }
-    requires room { (6 * places ≤ length workspace.old) × ((i : ℕ) → i < places → get_or workspace.old i 0 ≡ 0) }
-    requires track_room { 2 * places ≤ length track.old }
-    ensures kept { Kept places workspace.old workspace.new }
-    ensures decides { (lent : List ℕ)
-        → Decides (parts_of bytes.now) lent track.old result (cleared (parts_of bytes.now) lent) track.new }
+fn verdict(case: &Case, workspace: &mut [u16], track: &mut [u16]) -> Option<Lasso>
+    requires room { workspace_needs (parts_of case.now.bytes.now) ≤ length workspace.old }
+    requires cleared { (i : ℕ) → i < places_of (parts_of case.now.bytes.now) → get_or workspace.old i 0 ≡ 0 }
+    requires track_room { track_needs (parts_of case.now.bytes.now) ≤ length track.old }
+    ensures kept { Kept (places_of (parts_of case.now.bytes.now)) workspace.old workspace.new }
+    ensures decides { (lent : List ℕ) → Decides (parts_of case.now.bytes.now) lent track.old (Ok result)
+        (cleared (parts_of case.now.bytes.now) lent) track.new }
 {
-    let states = parts::state_list(bytes, shape);
-    let edges = parts::edge_list(bytes, shape);
-    let nodes = parts::node_list(bytes, shape);
-    let count = shape.states;
-    let n = shape.nodes;
-    let top = shape.eventualities;
+    let shape = case.shape;
+    let states = case.states();
+    let edges = case.edges();
     let mut rows = [0u16; 2048];
     let mut lanes = [0u16; 1024];
     let mut starts = [0u16; 65];
-    lanes::fill(states, nodes, count, n, &mut rows, &mut lanes);
-    lanes::starts::fill(edges, count, &mut starts);
-    let guesses = parts::guesses(shape.temporals);
-    let ones = places::ones(guesses);
-    let sizes = Sizes {
-        guesses,
-        ones,
-        top,
-        places,
+    lanes::fill(states, case.nodes(), shape.nodes, &mut rows, &mut lanes);
+    lanes::starts::fill(edges, shape.states, &mut starts);
+    let sizes = sizes_of(case);
+    let setting = Setting {
+        edges,
+        lanes: &lanes,
+        starts: &starts,
+        sizes,
     };
-    let last = (n - 1) * 64;
-    match turns::search_roots(
-        states, edges, last, &rows, &lanes, &starts, sizes, workspace,
-    ) {
-        Hit::Nothing => SearchAnswer::Holds,
-        Hit::Loop { outer, inner, at } => show(workspace, places, outer, inner, at, track),
+    let roots = Roots {
+        states,
+        rows: &rows,
+        last: (shape.nodes - 1) * 64,
+        guesses: sizes.guesses,
+    };
+    let plan = Plan { setting, roots };
+    match plan.search(workspace) {
+        ControlFlow::Continue(()) => None,
+        ControlFlow::Break(hit) => Some(show(&setting, workspace, hit, track)),
     }
 }
 
-// Writes the run that was found, folded: the outer stack, `outer` places deep, and the inner stack above its first place; the loop
-// starts where the place met again stands.
-fn show(
-    workspace: &[u16],
-    places: usize,
-    outer: usize,
-    inner: usize,
-    at: usize,
-    track: &mut [u16],
-) -> SearchAnswer
-    requires at_outer { (s : Stands workspace.now places at) × (s.index < outer) }
-    requires stacked { (1 ≤ inner) × Stacked workspace.now places outer (outer + inner - 1) × (outer + inner ≤ length track.old + 1)
-        × (outer + inner < 65536) }
-    ensures { (k : ℕ) × (stem : ℕ) × (repeat : ℕ) × (result ≡ SearchAnswer.Violated stem repeat)
-        × Lowest workspace.now places at k
-        × Folds (run_in workspace.now places outer) k (outer + inner - 1 - k) stem repeat
-        × Wrote workspace.now places outer (stem + repeat) track.old track.new }
+// Writes the run that was found, folded: the outer stack, and the inner stack above its first place; the loop starts where the place
+// met again stands.
+fn show(setting: &Setting, workspace: &[u16], hit: Hit, track: &mut [u16]) -> Lasso
+    requires met { (c : OfCase setting.now) × MetIn c workspace.now hit.outer hit.inner hit.at }
+    requires room { 2 * setting.now.sizes.places ≤ length track.old }
+    ensures { (c : OfCase setting.now) → MetIn c workspace.now hit.outer hit.inner hit.at
+        → (lent : List ℕ) → HasBroken c.parts lent track.old (cleared c.parts lent) track.new result.stem result.repeat }
 {
-    let k = tracks::find(workspace, places, at);
-    let m = outer + inner - 1 - k;
-    let repeat = tracks::folds::fold_loop(workspace, places, outer, k, m);
-    let stem = tracks::folds::fold_stem(workspace, places, outer, k, repeat);
-    tracks::write(workspace, places, outer, stem + repeat, track);
-    SearchAnswer::Violated { stem, repeat }
+    let places = setting.sizes.places;
+    let stem = tracks::find(workspace, places, hit.at);
+    let found = Run {
+        workspace,
+        places,
+        outer: hit.outer,
+        stem,
+        repeat: hit.outer + hit.inner - 1 - stem,
+    };
+    let run = found.folded();
+    run.write(track);
+    Lasso {
+        stem: run.stem,
+        repeat: run.repeat,
+    }
 }

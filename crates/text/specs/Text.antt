@@ -1,8 +1,7 @@
 -- What the bench program prints: 01, "The night update, byte for byte".
-use Rattle.std.specs.Prelude.{ℕ, zero, suc, ◌+◌, ◌/◌, ◌%◌, ◌≤◌, ◌<◌, cond, List, [], ◌∷◌, ◌++◌, ◌≡◌, ltb, eqb, length, get_or, take, drop}
+use Rattle.std.specs.Prelude.{ℕ, zero, suc, ◌+◌, ◌/◌, ◌%◌, ◌≤◌, ◌<◌, cond, List, [], ◌∷◌, ◌++◌, ◌≡◌, ltb, length, get_or, drop}
 use Prim.Native.Char.{code}
 use Prim.Native.String.{String, [] as none, ◌∷◌ as ◌then◌}
-use Rattle.std.proofs.lemmas.List.Edits.{sets}
 
 -- the bytes of a text in ASCII
 abbrev pub bytes : String → List ℕ
@@ -34,25 +33,12 @@ holds_text = bytes "holds\n"
 unfoldable pub refused_text : ℕ → ℕ → List ℕ
 refused_text number place = bytes "refused " ++ digits number ++ bytes " at " ++ digits place ++ bytes "\n"
 
--- "Answer 0 is holds, 1 is violated", with the run of k and m states in the track; any other number is a refusal's
-unfoldable pub verdict_text : ℕ → ℕ → ℕ → ℕ → List ℕ → List ℕ
-verdict_text number place k m track =
-    cond (eqb number 0) holds_text
-    (cond (eqb number 1) (violated_text (take k track) (take m (drop k track)))
-    (refused_text number place))
-
--- what a part of the text leaves: the bytes from `at` on are the part's, the others as before, and `next` is the place after it
-pub record Written (text : List ℕ) (at : ℕ) (before after : List ℕ) (next : ℕ) : Type 0 where
-  pub stored : after ≡ sets before at text
-  pub ends : next ≡ at + length text
-
 -- what the whole text leaves: its bytes, `filled` of them, and after them what stood there before
 pub record Printed (text before after : List ℕ) (filled : ℕ) : Type 0 where
   pub stored : after ≡ text ++ drop filled before
   pub counts : filled ≡ length text
 
 -- a run that fits the longest text: at most 10,240 states of at most two digits
-pub record Shown (k m : ℕ) (track : List ℕ) : Type 0 where
-  pub few : k + m ≤ 10240
-  pub stored : k + m ≤ length track
-  pub states : (i : ℕ) → i < k + m → get_or track i 0 < 64
+pub record Shown (run : List ℕ) : Type 0 where
+  pub few : length run ≤ 10240
+  pub states : (i : ℕ) → i < length run → get_or run i 0 < 64

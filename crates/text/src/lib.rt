@@ -1,103 +1,101 @@
-// The verdict as text, byte for byte as the program prints it, in a lent array that the longest text fills.
+// The verdict as text, byte for byte as the program prints it, in a lent array that the longest text fills. Each function says how many bytes
+// it filled. The longest text fits, so there is no refusal.
 #![tactic(auto)]
 
-ghost use Rattle.std.specs.Prelude.{◌≡◌, ◌∷◌, [], ◌+◌, ◌≤◌, ◌<◌, length};
-ghost use Rattle.text.specs.Text.{digits, states_text, refused_text, violated_text, verdict_text, Written, Printed, Shown};
+ghost use Rattle.text.specs.declared.TheConstants.{LONGEST};
+ghost use Rattle.std.specs.Prelude.{◌≡◌, ◌+◌, ◌≤◌, ◌++◌, length};
+ghost use Rattle.text.specs.Text.{digits, states_text, holds_text, refused_text, violated_text, Printed, Shown};
 
 // 10,240 states of a space and two digits each, and 19 bytes of words and line feeds.
 pub const LONGEST: usize = 30739;
 
-// Writes the verdict at the start of out, and says how many bytes it filled. The longest text fits, so there is no refusal.
-pub fn write(
-    number: usize,
-    place: usize,
-    k: usize,
-    m: usize,
-    track: &[u16],
-    out: &mut [u8; LONGEST],
-) -> usize
-    requires out_len { length out.old ≡ 30739 }
-    requires shown { number ≡ 1 → Shown k m track.now }
-    ensures { Printed (verdict_text number place k m track.now) out.old out.new result }
+// The word alone.
+#[tactic(auto, using(crate::proofs::Laws::adds_printed), unfolding(crate::specs::Text::holds_text))]
+pub fn holds(out: &mut [u8; LONGEST]) -> usize
+    ensures { Printed holds_text out.old out.new result }
 {
-    if number == 0 {
-        return put_word(b"holds\n", 0, out);
-    }
-    if number == 1 {
-        return put_run(&track[..k], &track[k..k + m], out);
-    }
-    put_refusal(number, place, out)
+    let mut text = Text { out, filled: 0 };
+    text.word(b"holds\n");
+    text.filled
 }
 
 // The three lines of a violation. An empty stem is the word alone.
-fn put_run(stem: &[u16], around: &[u16], out: &mut [u8; LONGEST]) -> usize
-    requires { length (violated_text stem.now around.now) ≤ 30739 }
-    ensures { Written (violated_text stem.now around.now) 0 out.old out.new result }
+#[tactic(auto, using(crate::proofs::Laws::run_room))]
+pub fn violated(stem: &[u16], around: &[u16], out: &mut [u8; LONGEST]) -> usize
+    requires { Shown (stem.now ++ around.now) }
+    ensures { Printed (violated_text stem.now around.now) out.old out.new result }
 {
-    let a = put_word(b"violated\nstem", 0, out);
-    let b = put_states(stem, a, out);
-    let c = put_word(b"\nloop", b, out);
-    let d = put_states(around, c, out);
-    put(b'\n', d, out)
+    let mut text = Text { out, filled: 0 };
+    text.word(b"violated\nstem");
+    text.states(stem);
+    text.word(b"\nloop");
+    text.states(around);
+    text.word(b"\n");
+    text.filled
 }
 
 // The line of a refusal.
-fn put_refusal(number: usize, place: usize, out: &mut [u8; LONGEST]) -> usize
-    ensures { Written (refused_text number place) 0 out.old out.new result }
+#[tactic(auto, using(crate::proofs::Laws::digits_few))]
+pub fn refused(number: usize, place: usize, out: &mut [u8; LONGEST]) -> usize
+    ensures { Printed (refused_text number place) out.old out.new result }
 {
-    let a = put_word(b"refused ", 0, out);
-    let b = put_number(number, a, out);
-    let c = put_word(b" at ", b, out);
-    let d = put_number(place, c, out);
-    put(b'\n', d, out)
+    let mut text = Text { out, filled: 0 };
+    text.word(b"refused ");
+    text.number(number);
+    text.word(b" at ");
+    text.number(place);
+    text.word(b"\n");
+    text.filled
 }
 
-// Each state after one space.
-fn put_states(states: &[u16], at: usize, out: &mut [u8; LONGEST]) -> usize
-    requires { at + length (states_text states.now) ≤ 30739 }
-    ensures { Written (states_text states.now) at out.old out.new result }
-{
-    let mut next = at;
-    let mut i = 0;
-    while i < states.len() {
-        let digits = put(b' ', next, out);
-        next = put_number(states[i] as usize, digits, out);
-        i += 1;
+// The text so far: the first bytes of the array. Each method puts one part behind it. (std's writers over lent bytes do not promise what
+// then stands in them.)
+#[derive(Drop)]
+struct Text<'a> {
+    out: &'a mut [u8],
+    filled: usize,
+    ghost whole: { length out.now ≡ LONGEST },
+    ghost within: { filled ≤ LONGEST },
+}
+
+impl Text<'_> {
+    ghost use Rattle.text.specs.Parts.{Adds};
+
+    // The bytes of a word.
+    fn word(&mut self, word: &[u8])
+        requires { self.old.filled + length word.now ≤ LONGEST }
+        ensures { Adds word.now self.old self.new }
+    {
+        let start = self.filled;
+        self.filled += word.len();
+        let out = &mut *self.out;
+        out[start..start + word.len()].copy_from_slice(word);
     }
-    next
-}
 
-// A number in decimal: the digits of its tenth first, unless it is below ten.
-fn put_number(n: usize, at: usize, out: &mut [u8; LONGEST]) -> usize
-    requires { at + length (digits n) ≤ 30739 }
-    ensures { Written (digits n) at out.old out.new result }
-{
-    let last = (n % 10) as u8;
-    if n < 10 {
-        return put(48 + last, at, out);
+    // A number in decimal: the digits of its tenth first, unless it is below ten. By hand: the kit's `itoa` would be one crate more to
+    // trust.
+    fn number(&mut self, n: usize)
+        requires { self.old.filled + length (digits n) ≤ LONGEST }
+        ensures { Adds (digits n) self.old self.new }
+    {
+        let last = [b'0' + (n % 10) as u8];
+        if n < 10 {
+            self.word(&last);
+            return;
+        }
+        self.number(n / 10);
+        self.word(&last);
     }
-    let next = put_number(n / 10, at, out);
-    put(48 + last, next, out)
-}
 
-// The bytes of a word, from `at` on. Like each part of the text it says where the next part begins.
-fn put_word(word: &[u8], at: usize, out: &mut [u8; LONGEST]) -> usize
-    requires { at + length word.now ≤ 30739 }
-    ensures { Written word.now at out.old out.new result }
-{
-    let mut i = 0;
-    while i < word.len() {
-        out[at + i] = word[i];
-        i += 1;
+    // Each state after one space.
+    #[tactic(auto, using(crate::proofs::Laws::states_room), unfolding(crate::specs::Text::states_text))]
+    fn states(&mut self, states: &[u16])
+        requires { self.old.filled + length (states_text states.now) ≤ LONGEST }
+        ensures { Adds (states_text states.now) self.old self.new }
+    {
+        for state in states {
+            self.word(b" ");
+            self.number(usize::from(*state));
+        }
     }
-    at + i
-}
-
-// One byte.
-fn put(byte: u8, at: usize, out: &mut [u8; LONGEST]) -> usize
-    requires { at < 30739 }
-    ensures { Written (byte ∷ []) at out.old out.new result }
-{
-    out[at] = byte;
-    at + 1
 }

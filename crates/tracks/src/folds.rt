@@ -1,81 +1,77 @@
 // Folding the run that was found: a loop that goes round more than once is shown once, and the end of a stem that is part of the
 // loop goes into it. The endless path stays as it is. Which run is shown is not promised; this is for the reader's sake.
-ghost use Rattle.std.specs.Prelude.{◌≡◌, true, ◌+◌, ◌*◌, ◌≤◌, ◌<◌};
+ghost use Rattle.std.specs.Prelude.{◌≡◌, true, ◌+◌, ◌≤◌, ◌<◌};
 ghost use Rattle.meaning.specs.Runs.{position};
-ghost use Rattle.meaning.proofs.Folds.{Rotates, StemEnds};
-ghost use Rattle.workspace.proofs.Tracks.{run_in, Stacked};
+ghost use Rattle.meaning.proofs.Folds.{Folds, Rotates, StemEnds};
+ghost use Rattle.tracks.specs.Entries.{entries};
 
-use scans::places;
+use crate::Run;
 
-// The state at index i of the run: the outer stack, `outer` places deep, and then the inner stack above its first place.
-pub fn state_at(workspace: &[u16], places: usize, outer: usize, i: usize) -> usize
-    requires { Stacked workspace.now places outer (i + 1) }
-    ensures { (result ≡ run_in workspace.now places outer i) × (result < 512) }
-{
-    if i < outer {
-        return places::state(places::wide(workspace[places + i]));
-    }
-    places::state(places::wide(workspace[3 * places + 1 + (i - outer)]))
-}
-
-// The entry at a position of the endless path, within a turn after the first.
-fn entry_at(k: usize, m: usize, i: usize) -> usize
-    requires { (1 ≤ m) × (i < k + m + m) × (k + m < 65536) }
-    ensures { result ≡ position k m i }
-{
-    if i < k + m {
-        return i;
-    }
-    i - m
-}
-
-// Whether the loop of m states from k on is the same again p further round.
-fn comes_round(workspace: &[u16], places: usize, outer: usize, k: usize, m: usize, p: usize) -> bool
-    requires { Stacked workspace.now places outer (k + m) × (1 ≤ m) × (p ≤ m) × (k + m < 65536) }
-    ensures { result ≡ true → Rotates (run_in workspace.now places outer) k m p }
-{
-    let end = k + m;
-    let mut here = k;
-    while here < end {
-        let there = entry_at(k, m, here + p);
-        if state_at(workspace, places, outer, here) != state_at(workspace, places, outer, there) {
-            return false;
+impl<'a> Run<'a> {
+    // The entry at a position of the endless path, within a turn after the first.
+    fn entry_at(&self, i: usize) -> usize
+        requires { i < self.now.stem + self.now.repeat + self.now.repeat }
+        ensures position { result ≡ position self.now.stem self.now.repeat i }
+        ensures within { result < self.now.stem + self.now.repeat }
+    {
+        if i < self.stem + self.repeat {
+            return i;
         }
-        here += 1;
+        i - self.repeat
     }
-    true
-}
 
-// The shortest loop that the loop of m states from k on goes round a whole number of times.
-pub fn fold_loop(workspace: &[u16], places: usize, outer: usize, k: usize, m: usize) -> usize
-    requires { Stacked workspace.now places outer (k + m) × (1 ≤ m) × (k + m < 65536) }
-    ensures { (1 ≤ result) × (result ≤ m) × Rotates (run_in workspace.now places outer) k m result }
-{
-    let mut p = 1;
-    while p < m {
-        if m % p == 0 {
-            if comes_round(workspace, places, outer, k, m, p) {
+    // Whether the loop is the same again p further round.
+    fn comes_round(&self, p: usize) -> bool
+        requires { p ≤ self.now.repeat }
+        ensures { result ≡ true → Rotates (entries self.now) self.now.stem self.now.repeat p }
+    {
+        let end = self.stem + self.repeat;
+        for here in self.stem..end {
+            let there = self.entry_at(here + p);
+            if self.state_at(here) != self.state_at(there) {
+                return false;
+            }
+        }
+        true
+    }
+
+    // The length of the shortest loop that the loop goes round a whole number of times.
+    pub fn fold_loop(&self) -> usize
+        ensures some { 1 ≤ result }
+        ensures within { result ≤ self.now.repeat }
+        ensures rotates { Rotates (entries self.now) self.now.stem self.now.repeat result }
+    {
+        for p in 1..self.repeat {
+            if self.repeat % p == 0 && self.comes_round(p) {
                 return p;
             }
         }
-        p += 1;
+        self.repeat
     }
-    m
-}
 
-// How much of a stem of k states is left when its end, as far as it is that of the loop of p, goes into the loop.
-pub fn fold_stem(workspace: &[u16], places: usize, outer: usize, k: usize, p: usize) -> usize
-    requires { Stacked workspace.now places outer (k + p) × (1 ≤ p) × (k + p < 65536) }
-    ensures { (result ≤ k) × StemEnds (run_in workspace.now places outer) result k p }
-{
-    let mut stem = k;
-    while 0 < stem {
-        if state_at(workspace, places, outer, stem - 1)
-            != state_at(workspace, places, outer, stem + p - 1)
-        {
-            return stem;
+    // How much of the stem is left when its end, as far as it is that of the loop, goes into the loop.
+    pub fn fold_stem(&self) -> usize
+        ensures within { result ≤ self.now.stem }
+        ensures ends { StemEnds (entries self.now) result self.now.stem self.now.repeat }
+    {
+        for i in (0..self.stem).rev() {
+            if self.state_at(i) != self.state_at(i + self.repeat) {
+                return i + 1;
+            }
         }
-        stem -= 1;
+        0
     }
-    stem
+
+    // The same run, folded.
+    pub fn folded(self) -> Run<'a>
+        ensures folds { Folds (entries self.entry) self.entry.stem self.entry.repeat result.stem result.repeat }
+        ensures workspace { result.workspace.now ≡ self.entry.workspace.now }
+        ensures places { result.places ≡ self.entry.places }
+        ensures outer { result.outer ≡ self.entry.outer }
+    {
+        let mut run = self;
+        run.repeat = run.fold_loop();
+        run.stem = run.fold_stem();
+        run
+    }
 }

@@ -2,8 +2,8 @@
 -- bit; and bit j of the fitting lane says the latter, of the bits j. By the four values of now and stay. Assumes nothing.
 use Prim.Native.Nat.{ℕ, zero, suc, ◌+◌, ◌-◌, ◌*◌, ◌≤◌, ◌<◌}
 use native.Mathlib.Omega.{arith}
-use native.Mathlib.Decide.{dec_lt}
-use mathlib.Core.Path.{◌≡◌, refl, sym, ap, ◌∙◌}
+use native.Mathlib.Decide.{dec_lt, ℕ_discrete}
+use mathlib.Core.Path.{◌≡◌, refl, sym, ap, ◌∙◌, subst}
 use mathlib.Core.Bool.{Bool, true, false, cond, not, ◌&&◌, ◌||◌, xor, true≢false}
 use mathlib.Core.List.{List}
 use mathlib.Core.Logic.{◌↔◌}
@@ -21,7 +21,7 @@ use Rattle.product.proofs.Lanes.{Words16, needs, fails, Lanes}
 use Rattle.product.proofs.Steps.{Law, LawOf, agree↔laws}
 use Rattle.product.proofs.Words.{truth_of_bit}
 use Rattle.workspace.proofs.Setting.{product_of}
-use Rattle.workspace.proofs.Scanning.{narrowed_in, fitting_in}
+use Rattle.workspace.proofs.Scanning.{narrowed_in, narrowed_by, fitting_in}
 
 -- ---- one lane
 
@@ -35,13 +35,6 @@ both_and a b e f = rw (e, f)
 not_true→ : (a : Bool) → not a ≡ true → a ≡ false
 not_true→ true e = absurd (true≢false (sym e))
 not_true→ false e = refl
-
-four : (P : ℕ → Type 0) → P 0 → P 1 → P 2 → P 3 → (t : ℕ) → t < 4 → P t
-four P p0 p1 p2 p3 zero h = p0
-four P p0 p1 p2 p3 (suc zero) h = p1
-four P p0 p1 p2 p3 (suc (suc zero)) h = p2
-four P p0 p1 p2 p3 (suc (suc (suc zero))) h = p3
-four P p0 p1 p2 p3 (suc (suc (suc (suc t)))) h = absurd (omega arith)
 
 module _ (lanes : List ℕ) (words : Words16 lanes) (s b next j : ℕ) (small : j < 16) where
   -- temporal node number t is carried on: where it is needed, the lane's bit j is its bit
@@ -74,25 +67,25 @@ module _ (lanes : List ℕ) (words : Words16 lanes) (s b next j : ℕ) (small : 
       )
       go false e = (λ h. (h, λ n. absurd (true≢false (sym n ∙ e))), λ h. h.0)
 
+  narrowed_by_keeps : (ones n : ℕ)
+      → (bit (narrowed_by lanes ones s b next n) j ≡ true) ↔ ((bit ones j ≡ true) × ((t : ℕ) → t < n → Carried t))
+  narrowed_by_keeps ones zero = (λ h. (h, λ t l. absurd (omega arith)), λ h. h.0)
+  narrowed_by_keeps ones (suc n) = (
+    λ h.
+        let last = (narrowed_keeps _ n).0 h in
+        let earlier = (narrowed_by_keeps ones n).0 last.0 in
+        (earlier.0, λ t l. go t l earlier.1 last.1 (ℕ_discrete t n)),
+    λ h. (narrowed_keeps _ n).1 ((narrowed_by_keeps ones n).1 (h.0, λ t l. h.1 t (omega arith)), h.1 n (omega arith)),
+  )
+    where
+      go : (t : ℕ) → t < suc n → ((k : ℕ) → k < n → Carried k) → Carried n → Dec (t ≡ n) → Carried t
+      go t l earlier here (yes e) = subst Carried (sym e) here
+      go t l earlier here (no m) = earlier t (omega arith)
+
   pub fitting_keeps : (ones : ℕ)
       → (bit (fitting_in lanes ones s b next) j ≡ true) ↔ ((bit ones j ≡ true) × ((t : ℕ) → t < 4 → Carried t))
   unfolding fitting_in
-  fitting_keeps ones = (
-    λ h.
-        let by_3 = (narrowed_keeps _ 3).0 h in
-        let by_2 = (narrowed_keeps _ 2).0 by_3.0 in
-        let by_1 = (narrowed_keeps _ 1).0 by_2.0 in
-        let by_0 = (narrowed_keeps ones 0).0 by_1.0 in
-        (by_0.0, four Carried by_0.1 by_1.1 by_2.1 by_3.1),
-    λ h.
-        (narrowed_keeps _ 3).1 (
-          (narrowed_keeps _ 2).1 (
-            (narrowed_keeps _ 1).1 ((narrowed_keeps ones 0).1 (h.0, h.1 0 (omega arith)), h.1 1 (omega arith)),
-            h.1 2 (omega arith),
-          ),
-          h.1 3 (omega arith),
-        ),
-  )
+  fitting_keeps ones = narrowed_by_keeps ones 4
 
 -- ---- one law
 

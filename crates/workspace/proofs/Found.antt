@@ -9,14 +9,14 @@ use mathlib.Core.Option.{some}
 use lib.ListN.{length, get_or, take}
 use lib.Seq.{get_or-take}
 use Rattle.bits.specs.Bits.{bit}
-use Rattle.reading.specs.Parts.{edge_count, temporals, eventualities, places}
+use Rattle.reading.specs.Parts.{edge_count, to_of, temporals, eventualities, places}
 use Rattle.graph.proofs.Graph.{◌!◌}
 use Rattle.graph.proofs.Machine.{Skips, Finds}
 use Rattle.product.specs.Places.{Place}
 use Rattle.product.specs.Product.{numbering}
 use Rattle.product.proofs.Steps.{successor↔tests}
 use Rattle.workspace.proofs.Setting.{product_of, edge_at, candidate, cand_of, cursors_of, code_of, decoded, number_of, Coded, Setting}
-use Rattle.workspace.proofs.Case.{width_is, top_is as top_counts, guesses_within, top_within, next_within, Leads, candidate_leads}
+use Rattle.workspace.proofs.Case.{width_is, top_is as top_counts, top_within, next_within, Leads, candidate_leads}
 use Rattle.workspace.proofs.Case.{leads_candidate, candidate_below, size_is as size_counts, start_within, coded_place, code_coded, code_decoded, graph_of}
 use Rattle.workspace.proofs.Scanning.{cursors_in, fits_at, index_at, Passed, Stops, Scannable}
 use Rattle.workspace.proofs.Candidates.{end_open, line_here, end_here, first_is, after_is, to_is, next_here, line_leads, Lies, leads_line}
@@ -67,17 +67,17 @@ module _ {edges lanes starts : List ℕ} {guesses ones top' size : ℕ} (c : Set
   pub scannable : (ws : List ℕ) → places c.parts ≤ length ws → Scannable (line_here c code is) ws (end_here c code is)
   scannable ws room =
       record {
-        few_guesses = omega (arith, c.guesses_are, guesses_within c.parts c.admitted);
-        few_promises = omega (arith, c.top_is, top_within c.parts c.admitted);
-        state_below = omega (arith, is.state_below, c.admitted.few_states);
-        bits_below = omega arith;
         next_below = omega (arith, next_low, top_within c.parts c.admitted);
         end_below = omega (arith, end_low, c.admitted.few_edges);
         end_whole = cursors_whole lanes (get_or starts (code / 128 + 1) 0 - get_or starts (code / 128) 0) (code / 128) (code / 8 % 16);
-        edges_lie = λ a h.
-            rw c.edges_are (omega (arith, first_is c code is, c.admitted.edge_bytes, edge_low a h));
-        to_below = λ a h.
-            omega (arith, to_is c code is a, c.admitted.to_states (edge_at c.parts (decoded code) a) (edge_low a h), c.admitted.few_states);
+        edges_lie = λ e h.
+            let l : e * 16 < end_here c code is = omega arith in
+            rw c.edges_are (omega (arith, first_is c code is, c.admitted.edge_bytes, edge_low (e * 16) l));
+        to_below = λ e h.
+            let l : e * 16 < end_here c code is = omega arith in
+            let same : e * 16 / 16 ≡ e = omega arith in
+            subst (λ (i : ℕ). to_of edges (get_or starts (code / 128) 0 + i) < 64) same
+            (omega (arith, to_is c code is (e * 16), c.admitted.to_states (edge_at c.parts (decoded code) (e * 16)) (edge_low (e * 16) l), c.admitted.few_states));
         inside = λ a h f.
             omega (
               arith,

@@ -13,7 +13,7 @@ use Rattle.workspace.proofs.Setting.{number_in, Coded, Setting, Topped, top_code
 use Rattle.workspace.proofs.Case.{coded_small}
 use Rattle.workspace.proofs.Views.{Kept, kept_same, kept_set, fuel, outer_fuel}
 use Rattle.workspace.proofs.ViewsIn.{cursors_in, graph_in, number-below, OuterIn, ExhaustedIn, InnerIn, MetIn, OuterOn, InnerOn}
-use Rattle.workspace.proofs.TurnsIn.{Paints, Pushes, Advances, pushed, advanced, ScanFinds, ScanSkips, scan_finds, scan_skips, outer_exhausted, coded_paints, below_unmarked, top_marked, advanced_is, cursors_few}
+use Rattle.workspace.proofs.TurnsIn.{Paints, Advances, pushed, advanced, ScanFinds, ScanSkips, scan_finds, scan_skips, outer_exhausted, coded_paints, below_unmarked, top_marked, advanced_is, cursors_few}
 use Rattle.workspace.proofs.Stores
 use Rattle.workspace.proofs.Turns
 use Rattle.workspace.proofs.InnerTurns
@@ -124,9 +124,6 @@ module _ {edges lanes starts : List ℕ} {guesses ones top size : ℕ} (x : Sett
     pub top_lent : 6 * size ≤ length ws
     top_lent = l.exhausted.at.lent
 
-    pub top_paints : Paints guesses top ws code
-    top_paints = coded_paints x (omega (arith, top_lent)) top_coded
-
     pub paint_kept : (colour : ℕ) → Kept size ws (set ws (number_in guesses top code) colour)
     paint_kept colour = kept_set (kept_same size ws) (number_in guesses top code) colour (omega (arith, number-below x top_coded))
 
@@ -140,12 +137,6 @@ module _ {edges lanes starts : List ℕ} {guesses ones top size : ℕ} (x : Sett
       where
         plain : lib.Dec.T ((graph_in x).marked (number_in guesses top (ws ! (size + d)))) → ⊥
         plain t = below_unmarked x (l.exhausted.at.coded d (omega arith)) (omega (arith, ap (λ (k : ℕ). k % 8) l.code_is)) t
-
-    pub inner_pushes : Pushes size ws (3 * size) 0 code
-    inner_pushes = record {
-      code_low = coded_small x.parts x.admitted top_coded;
-      lies = omega (arith, top_lent, l.exhausted.at.fits);
-    }
 
     begun_is : Stores.begun (graph_in x) (number_in guesses top) (3 * size) (ws ! (size + d)) ws ≡ pushed size (3 * size) 0 code ws
     begun_is =

@@ -1,16 +1,15 @@
 -- The root loop as the code takes it: by state and then by bits, each with waiting number 0. Places between two of them have another waiting
 -- number, so none is initial. Assumes nothing.
-use Prim.Native.Nat.{ℕ, zero, suc, ◌+◌, ◌-◌, ◌*◌, ◌/◌, ◌%◌, ◌≤◌, ◌<◌}
+use Prim.Native.Nat.{ℕ, zero, suc, ◌+◌, ◌-◌, ◌*◌, ◌%◌, ◌≤◌, ◌<◌}
 use native.Mathlib.Omega.{arith}
 use mathlib.Core.Path.{◌≡◌, refl, sym, ap, ap₂, ◌∙◌, subst}
 use mathlib.Core.Bool.{true, false}
 use mathlib.Core.List.{List}
 use lib.Arith.{digits_mod}
 use lib.Dec.{T}
-use lib.ListN.{length, set, take, length-set}
+use lib.ListN.{set, take}
 use lib.Seq.{get_or-take}
 use borrow.Author.Tests.{lt-ltb}
-use Rattle.reading.specs.Parts.{Parts}
 use Rattle.product.specs.Places.{place_of}
 use Rattle.product.specs.Product.{place, initial}
 use Rattle.product.proofs.Steps.{initial→}
@@ -18,20 +17,17 @@ use Rattle.product.proofs.Numbers.{code_state, code_bits, code_waiting}
 use Rattle.graph.proofs.Graph.{◌!◌}
 use Rattle.graph.proofs.Machine.{white, cyan}
 use Rattle.workspace.proofs.Setting.{product_of, code_of, number_in, Coded, Setting}
-use Rattle.workspace.proofs.Case.{guesses_within, top_is, coded_small, code_coded}
-use Rattle.workspace.proofs.Roots.{Rooting, root_at, root_initial}
+use Rattle.workspace.proofs.Case.{guesses_within, top_is, code_coded}
+use Rattle.workspace.proofs.Roots.{root_at, root_initial}
 use Rattle.workspace.proofs.Views.{Kept, kept_same, kept_set}
 use Rattle.workspace.proofs.ViewsIn.{graph_in, number_is, number-below, OuterIn}
-use Rattle.workspace.proofs.TurnsIn.{Paints, Pushes, pushed, coded_paints}
+use Rattle.workspace.proofs.TurnsIn.{pushed}
 use Rattle.workspace.proofs.Stores
 use Rattle.workspace.proofs.RootTurns
 
 -- the number of the place of state s and bits b with waiting number 0
 abbrev pub root_number : ℕ → ℕ → ℕ → ℕ → ℕ
 root_number guesses top s b = (s * guesses + b) * (top + 1)
-
-pub root_first : (guesses top : ℕ) → 0 ≡ root_number guesses top 0 0
-root_first guesses top = omega (arith, native.Mathlib.Nat.zero-mul guesses, ap (λ (k : ℕ). k * (top + 1)) (let q : 0 * guesses + 0 ≡ 0 = omega (arith, native.Mathlib.Nat.zero-mul guesses) in q), native.Mathlib.Nat.zero-mul (top + 1))
 
 -- past the last bits comes the next state
 pub root_row : (guesses top s : ℕ) → root_number guesses top s guesses ≡ root_number guesses top (s + 1) 0
@@ -40,12 +36,6 @@ root_row guesses top s = ap (λ (k : ℕ). k * (top + 1)) (omega (arith, native.
 module _ {edges lanes starts : List ℕ} {guesses ones top size : ℕ} (x : Setting edges lanes starts guesses ones top size) where
   pub guesses_few : guesses ≤ 16
   guesses_few = omega (arith, x.guesses_are, guesses_within x.parts x.admitted)
-
-  -- as many states as the code counts
-  pub rooting_count : {states rows : List ℕ} {last : ℕ} (q : Rooting states rows last guesses) → q.parts ≡ x.parts → length states / 3 ≡ x.parts.states
-  rooting_count {states} q same =
-      let long : length states ≡ 3 * q.parts.states = ap length q.states_are ∙ q.admitted.state_bytes in
-      omega (arith, ap (λ (p : Parts). p.states) same)
 
   pub root_end : root_number guesses top x.parts.states 0 ≡ size
   root_end =
@@ -118,15 +108,6 @@ module _ {edges lanes starts : List ℕ} {guesses ones top size : ℕ} (x : Sett
     pub is_white : ws ! number_in guesses top root ≡ white
 
   module _ {ws : List ℕ} {root : ℕ} (o : Root ws root) where
-    pub root_paints : Paints guesses top ws root
-    root_paints = coded_paints x (omega (arith, o.at.lent)) o.coded
-
-    pub root_pushes : Pushes size (set ws (number_in guesses top root) cyan) size 0 root
-    root_pushes = record {
-      code_low = coded_small x.parts x.admitted o.coded;
-      lies = omega (arith, o.at.lent, number-below x o.coded, length-set ws (number_in guesses top root) cyan);
-    }
-
     pub root_kept : Kept size ws (pushed size size 0 root (set ws (number_in guesses top root) cyan))
     root_kept =
         let some : 1 ≤ size = omega (arith, number-below x o.coded) in

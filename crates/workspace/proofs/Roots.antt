@@ -6,7 +6,7 @@ use mathlib.Core.Bool.{Bool, true, false, not, ◌&&◌, and-true, and-false}
 use mathlib.Core.List.{List}
 use lib.Dec.{ltb}
 use lib.ListN.{length, get_or}
-use borrow.Author.Tests.{lt-ltb, le-ltb}
+use borrow.Author.Tests.{lt-ltb}
 use Rattle.bits.specs.Bits.{bit}
 use Rattle.reading.specs.Parts.{Parts, table_of, initial_of, node_count, node_of, temporals}
 use Rattle.reading.proofs.Admitted.{Admitted}
@@ -36,9 +36,6 @@ module _ {states rows : List ℕ} {last guesses : ℕ} (c : Rooting states rows 
   rooting_state s h = rw (c.states_are, c.admitted.state_bytes) (omega arith)
 
   module _ (s b : ℕ) where
-    pub root_none : guesses ≤ b → root_at c.parts guesses s b ≡ false
-    root_none h = rw (le-ltb b guesses h)
-
     root_row : s < c.parts.states → b < guesses
         → root_at c.parts guesses s b ≡ (initial_of states s && not (bit (get_or rows (last + s) 0) b))
     unfolding initial

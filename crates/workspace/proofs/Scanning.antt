@@ -1,6 +1,6 @@
 -- What a scan reads and answers, on the arrays themselves: contracts of the code cite these definitions, and `Fitting` and `Found`
 -- show that they speak of the case's graph.
-use Prim.Native.Nat.{ℕ, ◌+◌, ◌-◌, ◌*◌, ◌/◌, ◌%◌, ◌≤◌, ◌<◌}
+use Prim.Native.Nat.{ℕ, zero, suc, ◌+◌, ◌-◌, ◌*◌, ◌/◌, ◌%◌, ◌≤◌, ◌<◌}
 use mathlib.Core.Path.{◌≡◌}
 use mathlib.Core.Bool.{Bool, true, false, cond}
 use mathlib.Core.List.{List}
@@ -34,24 +34,36 @@ narrowed_in lanes fit s b next t =
     let lane = get_or lanes (next * 16 + 4 + t) 0 in
     cond (bit (get_or lanes (s * 16 + t) 0) b) (bit_and fit (cond (bit b t) lane (65535 - lane))) fit
 
+-- the same, by each of the first n temporal nodes
+abbrev pub narrowed_by : List ℕ → ℕ → ℕ → ℕ → ℕ → ℕ → ℕ
+narrowed_by lanes ones s b next zero = ones
+narrowed_by lanes ones s b next (suc n) = narrowed_in lanes (narrowed_by lanes ones s b next n) s b next n
+
 -- the bits with which state `next` follows the place (s, b), as a lane
 unfoldable pub fitting_in : List ℕ → ℕ → ℕ → ℕ → ℕ → ℕ
-fitting_in lanes ones s b next =
-    narrowed_in lanes (narrowed_in lanes (narrowed_in lanes (narrowed_in lanes ones s b next 0) s b next 1) s b next 2) s b next 3
+fitting_in lanes ones s b next = narrowed_by lanes ones s b next 4
 
--- r is the lowest bit from b on that is set in a lane, if that is below 16
+-- no bit of a lane from b to below e is set
+abbrev pub Clear : ℕ → ℕ → ℕ → Type 0
+Clear lane b e = (j : ℕ) → b ≤ j → j < e → bit lane j ≡ false
+
+-- r is the lowest bit from b on that is set in a lane
 pub record LowestSet (lane b r : ℕ) : Type 0 where
   pub from : b ≤ r
-  pub small : r ≤ 48
-  pub clear : (j : ℕ) → b ≤ j → j < r → bit lane j ≡ false
-  pub set : r < 16 → bit lane r ≡ true
+  pub low : r < 16
+  pub clear : Clear lane b r
+  pub set : bit lane r ≡ true
 
--- r is the lowest bit from b on that is set in a lane and at which `colour` is below the limit, if that is below 16
+-- each bit of a lane from b to below e that is set has a colour of the limit or above
+abbrev pub Spared : ℕ → (ℕ → ℕ) → ℕ → ℕ → ℕ → Type 0
+Spared lane colour limit b e = (j : ℕ) → b ≤ j → j < e → bit lane j ≡ true → limit ≤ colour j
+
+-- r is the lowest bit from b on that is set in a lane and has a colour below the limit
 pub record LowestUnder (lane : ℕ) (colour : ℕ → ℕ) (limit b r : ℕ) : Type 0 where
   pub from : b ≤ r
-  pub passed : (j : ℕ) → b ≤ j → j < r → j < 16 → bit lane j ≡ true → limit ≤ colour j
-  pub set : r < 16 → bit lane r ≡ true
-  pub under : r < 16 → colour r < limit
+  pub spared : Spared lane colour limit b r
+  pub set : bit lane r ≡ true
+  pub under : colour r < limit
 
 -- where the colour of the place of state s, bits j and waiting number `next` lies
 abbrev pub index_in : ℕ → ℕ → ℕ → ℕ → ℕ → ℕ
@@ -99,13 +111,9 @@ module _ (l : Line) where
 
   -- every index of a scan lies in its array
   pub record Scannable (ws : List ℕ) (end : ℕ) : Type 0 where
-    pub few_guesses : l.guesses ≤ 16
-    pub few_promises : l.top ≤ 4
-    pub state_below : l.state < 64
-    pub bits_below : l.bits < 16
     pub next_below : l.next < 8
     pub end_below : end ≤ 8192
     pub end_whole : end % 16 ≡ 0
-    pub edges_lie : (a : ℕ) → a < end → 2 * (l.first + a / 16) + 1 < length l.edges
-    pub to_below : (a : ℕ) → a < end → to_at a < 64
+    pub edges_lie : (e : ℕ) → e < end / 16 → 2 * (l.first + e) + 1 < length l.edges
+    pub to_below : (e : ℕ) → e < end / 16 → to_of l.edges (l.first + e) < 64
     pub inside : (a : ℕ) → a < end → fits_at a ≡ true → index_at a < length ws

@@ -1,12 +1,12 @@
 -- A scan from the top of a stack: what it reads lies in its arrays, and what it answers is what the graph's scan finds. Assumes nothing.
-use Prim.Native.Nat.{ℕ, ◌+◌, ◌/◌, ◌≤◌, ◌<◌}
+use Prim.Native.Nat.{ℕ, ◌+◌, ◌/◌, ◌≤◌}
 use mathlib.Core.Path.{◌≡◌, sym, subst, subst₂}
 use mathlib.Core.List.{List}
 use lib.ListN.{get_or, take}
 use Rattle.reading.specs.Parts.{places}
 use Rattle.graph.proofs.Machine.{Skips, Finds}
 use Rattle.workspace.proofs.Setting.{cursors_of, number_of, Coded, Setting, Topped, top_code, top_cursor}
-use Rattle.workspace.proofs.Case.{coded_small, graph_of}
+use Rattle.workspace.proofs.Case.{graph_of}
 use Rattle.workspace.proofs.Edges.{start_rises}
 use Rattle.workspace.proofs.Scanning.{RowIn, Line, line_of, Passed, Stops, Scannable}
 use Rattle.workspace.proofs.Candidates.{line_here, end_here, first_is, after_is}
@@ -16,9 +16,6 @@ module _ {edges lanes starts : List ℕ} {guesses ones top size : ℕ} (c : Sett
     {ws : List ℕ} {base depth : ℕ} (t : Topped c.parts ws base depth) (code : ℕ) (code_is : code ≡ top_code ws base depth) where
   coded_top : Coded c.parts code
   coded_top = subst (Coded c.parts) (sym code_is) t.coded
-
-  pub top_small : code < 8192
-  top_small = coded_small c.parts c.admitted coded_top
 
   pub top_rises : get_or starts (code / 128) 0 ≤ get_or starts (code / 128 + 1) 0
   top_rises =

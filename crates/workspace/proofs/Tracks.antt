@@ -1,7 +1,6 @@
 -- The run that is written out: where a met place stands on the outer stack, what the track holds then, and that it violates the rule; and that
 -- a search through all roots shows that the rule holds. Assumes nothing.
 use Prim.Native.Nat.{ℕ, zero, suc, ◌+◌, ◌-◌, ◌*◌, ◌/◌, ◌≤◌, ◌<◌}
-use native.Mathlib.Nat.{not-suc-le-zero}
 use native.Mathlib.Omega.{arith}
 use native.Mathlib.Decide.{dec_lt, ℕ_discrete}
 use mathlib.Core.Path.{◌≡◌, refl, sym, ap, ◌∙◌, subst}
@@ -9,8 +8,8 @@ use mathlib.Core.List.{List, [], ◌∷◌, ◌++◌}
 use mathlib.Core.Bool.{cond}
 use lib.Dec.{ltb}
 use borrow.Author.Tests.{lt-ltb, le-ltb}
-use lib.ListN.{length, set, take, drop, length-set, length-append, get_or-append}
-use lib.Seq.{get_or-set_same, get_or-set_other, drop-set-lt, drop-drop, get_or-append-add, get_or_at, get_or-drop}
+use lib.ListN.{length, take, drop, length-append, get_or-append}
+use lib.Seq.{get_or-append-add, get_or_at, get_or-drop}
 use Rattle.meaning.specs.Runs.{Violates, Holds}
 use Rattle.meaning.proofs.Folds.{Folds, folds_along, violates_folded}
 use Rattle.reading.specs.Parts.{table_of, rule_of}
@@ -49,14 +48,6 @@ pub record Lowest (ws : List ℕ) (base code at : ℕ) : Type 0 where
   pub here : ws ! (base + at) ≡ code
   pub first : (s : Stands ws base code) → at ≤ s.index
 
--- what is not below i stands at i or later
-pub stands_later : {ws : List ℕ} {base code i : ℕ} → ((j : ℕ) → j < i → ws ! (base + j) ≡ code → ⊥) → (s : Stands ws base code) → i ≤ s.index
-stands_later {i = i} none s = go (dec_lt s.index i)
-  where
-    go : Dec (s.index < i) → i ≤ s.index
-    go (yes h) = absurd (none s.index h s.is)
-    go (no h) = omega arith
-
 -- ---- what is written
 
 -- the state at index i of the run that the stacks hold: the outer stack, `outer` places deep, then the inner stack above its first place
@@ -72,29 +63,6 @@ pub record Wrote (ws : List ℕ) (size outer n : ℕ) (track track' : List ℕ) 
   pub long : length track' ≡ length track
   pub states : (i : ℕ) → i < n → track' ! i ≡ run_in ws size outer i
   pub behind : drop n track' ≡ drop n track
-
-pub wrote_none : (ws : List ℕ) (size outer : ℕ) (track : List ℕ) → Wrote ws size outer 0 track track
-wrote_none ws size outer track = record { long = refl; states = λ i h. absurd (not-suc-le-zero h); behind = refl }
-
-pub wrote_more : {ws : List ℕ} {size outer n : ℕ} {track track' : List ℕ} → Wrote ws size outer n track track' → n < length track
-    → (v : ℕ) → v ≡ run_in ws size outer n → Wrote ws size outer (n + 1) track (set track' n v)
-wrote_more {ws} {size} {outer} {n} {track} {track'} w h v e = record {
-  long = length-set track' n v ∙ w.long;
-  states = λ i l. go i l (ℕ_discrete i n);
-  behind =
-      drop-set-lt (n + 1) track' n v (omega arith)
-      ∙ sym (drop-drop 1 n track')
-      ∙ ap (drop 1) w.behind
-      ∙ drop-drop 1 n track;
-}
-  where
-    go : (i : ℕ) → i < n + 1 → Dec (i ≡ n) → set track' n v ! i ≡ run_in ws size outer i
-    go i l (yes q) =
-        ap (λ (k : ℕ). set track' n v ! k) q
-        ∙ get_or-set_same track' n v 0 (omega (arith, w.long))
-        ∙ e
-        ∙ ap (run_in ws size outer) (sym q)
-    go i l (no q) = get_or-set_other track' n i v 0 (omega arith) ∙ w.states i (omega arith)
 
 -- the first n values of f, as a list
 values : (ℕ → ℕ) → ℕ → List ℕ

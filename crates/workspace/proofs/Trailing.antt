@@ -3,10 +3,9 @@ use Prim.Native.Nat.{ℕ, zero, suc, ◌+◌, ◌-◌, ◌/◌, ◌%◌, ◌^◌
 use native.Mathlib.Omega.{arith}
 use mathlib.Core.Path.{◌≡◌, refl, sym, ◌∙◌}
 use mathlib.Core.Bool.{true, false}
-use lib.Count.{under, count_trailing_zeros, trailing_le}
+use lib.Count.{under, count_trailing_zeros}
 use Rattle.bits.specs.Bits.{bit}
 use Rattle.bits.proofs.Bit.{bit-lowest, bit-suc, bit-shr}
-use Rattle.workspace.proofs.Scanning.{LowestSet}
 
 -- no bit below the count is set
 trailing_clear : (k n j : ℕ) → j < count_trailing_zeros k n → bit n j ≡ false
@@ -32,13 +31,10 @@ trailing_set (suc k) n h = go (trailing_set k (n / 2)) (n % 2) refl h
     go half (suc d) e l = let one : n % 2 ≡ 1 = omega arith in bit-lowest n ∙ rw one
 
 -- counted from bit b on
-pub lowest_set : (lane b : ℕ) → b ≤ 16 → LowestSet lane b (b + count_trailing_zeros 32 (lane / 2 ^ b))
-lowest_set lane b h =
-    record {
-      from = omega arith;
-      small = omega (arith, trailing_le 32 (lane / 2 ^ b));
-      clear = λ j low high.
-          let q : j ≡ b + (j - b) = omega arith in
-          rw q (sym (bit-shr lane b (j - b)) ∙ trailing_clear 32 (lane / 2 ^ b) (j - b) (omega arith));
-      set = λ l. sym (bit-shr lane b (count_trailing_zeros 32 (lane / 2 ^ b))) ∙ trailing_set 32 (lane / 2 ^ b) (omega arith);
-    }
+pub clear_from : (lane b j : ℕ) → b ≤ j → j < b + count_trailing_zeros 32 (lane / 2 ^ b) → bit lane j ≡ false
+clear_from lane b j low high =
+    let q : j ≡ b + (j - b) = omega arith in
+    rw q (sym (bit-shr lane b (j - b)) ∙ trailing_clear 32 (lane / 2 ^ b) (j - b) (omega arith))
+
+pub set_from : (lane b : ℕ) → b + count_trailing_zeros 32 (lane / 2 ^ b) < 16 → bit lane (b + count_trailing_zeros 32 (lane / 2 ^ b)) ≡ true
+set_from lane b h = sym (bit-shr lane b (count_trailing_zeros 32 (lane / 2 ^ b))) ∙ trailing_set 32 (lane / 2 ^ b) (omega arith)

@@ -13,7 +13,7 @@ use Rattle.product.specs.Product.{place, marked}
 use Rattle.graph.proofs.Graph.{◌!◌, Graph}
 use Rattle.graph.proofs.Machine.{blue, cyan, Skips, Finds}
 use Rattle.workspace.proofs.Setting.{product_of, cursors_of, number_of, number_in, Coded, Setting, Topped, top_code, top_cursor}
-use Rattle.workspace.proofs.Case.{graph_of, guesses_within, top_within, top_is as case_top, coded_small, coded_place}
+use Rattle.workspace.proofs.Case.{graph_of, top_is as case_top, coded_small, coded_place}
 use Rattle.workspace.proofs.Views.{Kept, outer_fuel}
 use Rattle.workspace.proofs.ViewsIn.{cursors_in, graph_in, graph_is, number_is, number-below, OuterIn, ExhaustedIn, OuterOn}
 use Rattle.workspace.proofs.Stores
@@ -23,8 +23,6 @@ use Rattle.workspace.proofs.Turns
 
 -- a code can be painted
 pub record Paints (guesses top : ℕ) (ws : List ℕ) (code : ℕ) : Type 0 where
-  pub guesses_low : guesses ≤ 16
-  pub top_low : top ≤ 4
   pub code_low : code < 8192
   pub inside : number_in guesses top code < length ws
 
@@ -98,19 +96,9 @@ module _ {edges lanes starts : List ℕ} {guesses ones top size : ℕ} (x : Sett
 
   pub coded_paints : {ws : List ℕ} {code : ℕ} → size ≤ length ws → Coded x.parts code → Paints guesses top ws code
   coded_paints {ws} {code} h is = record {
-    guesses_low = omega (arith, x.guesses_are, guesses_within x.parts x.admitted);
-    top_low = omega (arith, x.top_is, top_within x.parts x.admitted);
     code_low = coded_small x.parts x.admitted is;
     inside = omega (arith, number-below x is);
   }
-
-  -- its number can be computed
-  pub number-asked : {code : ℕ} → Coded x.parts code → (guesses ≤ 16) × (top ≤ 4) × (code < 8192)
-  number-asked is = (
-    omega (arith, x.guesses_are, guesses_within x.parts x.admitted),
-    omega (arith, x.top_is, top_within x.parts x.admitted),
-    coded_small x.parts x.admitted is,
-  )
 
   waiting_is : {code : ℕ} → Coded x.parts code → (place (product_of x.parts) (number_in guesses top code)).waiting ≡ code % 8
   waiting_is {code} is =

@@ -8,24 +8,16 @@ use Rattle.filled.proofs.Adding.{filled_none, at_nodes, at_parts}
 use Rattle.lanes.proofs.+fill.Goals as goal
 
 pub returns-then-n-eq0 : goal.returns-then-n-eq0
-returns-then-n-eq0 t c = λ f.
-    rw c.if-n-eq0.true (filled_none (table_of f.parts) (node_of f.parts.node_list) c.requires.1 c.requires.2)
+returns-then-n-eq0 t c f =
+    rw c.if-n-eq0.true (filled_none (table_of f.parts) (node_of f.parts.node_list) c.requires.blank_rows c.requires.blank_lanes)
 
-pub fill-before-requires : goal.fill-before-requires
-fill-before-requires t c = (
-  omega arith,
-  (filling_below c.requires.0 (c.args.n - 1) (omega arith), c.requires.1, c.requires.2),
-)
-
-pub add_node-requires : goal.add_node-requires
-add_node-requires t c =
-    let f = c.requires.0 in
-    let below = filling_below f (c.args.n - 1) (omega arith) in
-    let filled = at_nodes below (c.fill-before.ensures below) in
-    (filling_below f (suc (c.args.n - 1)) (omega arith), filled.counts, filled.rows_size, filled.lanes_size)
+pub add_node-requires-clause-counted : goal.add_node-requires-clause-counted
+add_node-requires-clause-counted t c =
+    let below = filling_below c.requires.filling (c.args.n - 1) (omega arith) in
+    (at_nodes below (c.fill-before.ensures below)).counts
 
 pub returns : goal.returns
-returns t c = λ f.
+returns t c f =
     let below = filling_below f (c.args.n - 1) (omega arith) in
     let before = at_nodes below (c.fill-before.ensures below) in
     let last : suc (c.args.n - 1) ≡ c.args.n = omega arith in

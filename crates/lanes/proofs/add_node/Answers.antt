@@ -1,66 +1,57 @@
--- `lanes::add_node` meets its contract: a plain node adds its row, a temporal one its pattern and its lanes. Assumes nothing.
+-- `lanes::add_node` meets its contract: each node adds its row, a temporal one its lanes besides. Assumes nothing.
 use native.Mathlib.Omega.{arith}
-use Prim.Native.Nat.{◌≤◌, ◌<◌}
+use mathlib.Core.Path.{◌≡◌, sym, ap, ◌∙◌}
+use Prim.Native.Nat.{ℕ, suc, ◌≤◌, ◌<◌}
+use mathlib.Core.List.{List}
+use Rattle.meaning.specs.Table.{Node}
+use Rattle.rule.specs.Operator.{code}
+use Rattle.rule.proofs.Codes.{plain_code_below, temporal_code_within}
 use Rattle.reading.specs.Parts.{node_of}
-use Rattle.filled.proofs.Filling.{Ready}
-use Rattle.filled.proofs.Nodes.{few_states, few_temporals, state_bytes, ready, length_more, promises_few}
+use Rattle.reading.specs.Node.{node_is}
+use Rattle.filled.proofs.Filling.{Filling, Counted}
+use Rattle.filled.proofs.Nodes.{few_states, few_temporals, length_more}
 use Rattle.filled.proofs.Adding.{filled_plain, filled_temporal}
 use Rattle.lanes.proofs.add_node.Goals as goal
 
-pub operator-operator-requires : goal.operator-operator-requires
-operator-operator-requires c = (ready c.requires.0 c.args.n (omega arith)).bytes
+-- a temporal node comes, so there are fewer than four before it
+room : {states nodes : List ℕ} {n T E : ℕ} → Filling states nodes (suc n) → Counted (node_of nodes) n T E
+    → (x : Node) → x ≡ node_of nodes n → 6 ≤ x.operator → T < 4
+room {nodes = nodes} {n = n} filling counted x is high =
+    omega (arith, few_temporals filling, length_more 6 (node_of nodes) n (rw (sym is) high), counted.temporals_are)
 
-pub add_plain_row-requires : goal.add_plain_row-requires
-add_plain_row-requires c =
-    let plain : (node_of c.args.nodes.now c.args.n).operator < 6 = omega (arith, c.operator-operator.ensures, c.if-operator-lt6.true) in
-    (ready c.requires.0 c.args.n (omega arith), plain, few_states c.requires.0, state_bytes c.requires.0, c.requires.2)
+pub add_row-requires-clause-few : goal.add_row-requires-clause-few
+add_row-requires-clause-few c = room c.requires.filling c.requires.counted _ c.read-numbered.ensures.node
 
-pub returns-then-operator-lt6 : goal.returns-then-operator-lt6
-returns-then-operator-lt6 c table stated old =
-    let plain : (node_of c.args.nodes.now c.args.n).operator < 6 = omega (arith, c.operator-operator.ensures, c.if-operator-lt6.true) in
-    filled_plain stated.count_is (few_states c.requires.0) old plain
-    (c.add_plain_row.ensures table stated old.all_rows)
+pub add_lanes-requires-clause-few : goal.add_lanes-requires-clause-few
+add_lanes-requires-clause-few c =
+    let high : 6 ≤ code c.read-numbered.result.node.operator = rw c.in-Temporal.is (temporal_code_within c.in-Temporal.operator).0 in
+    room c.requires.filling c.requires.counted _ c.read-numbered.ensures.node high
 
-pub pattern-requires : goal.pattern-requires
-pattern-requires c =
-    let high : 6 ≤ (node_of c.args.nodes.now c.args.n).operator = omega (arith, c.operator-operator.ensures, c.if-operator-lt6.false) in
-    omega (arith, few_temporals c.requires.0, length_more 6 (node_of c.args.nodes.now) c.args.n high, c.requires.1.temporals_are)
+pub with-requires : goal.with-requires
+with-requires c =
+    let high : 6 ≤ code c.read-numbered.result.node.operator = rw c.in-Temporal.is (temporal_code_within c.in-Temporal.operator).0 in
+    room c.requires.filling c.requires.counted _ c.read-numbered.ensures.node high
 
-pub add_pattern_row-requires : goal.add_pattern_row-requires
-add_pattern_row-requires c =
-    ((ready c.requires.0 c.args.n (omega arith)).low, few_states c.requires.0, c.requires.2)
+pub returns-in-Plain : goal.returns-in-Plain
+returns-in-Plain c table stated old =
+    let numbered = c.read-numbered in
+    let number = numbered.ensures.number in
+    let node = node_of c.args.nodes.now in
+    let low : code numbered.result.node.operator < 6 = rw c.in-Plain.is (plain_code_below c.in-Plain.field-0) in
+    filled_plain stated.count_is (few_states c.requires.filling) old (rw (sym numbered.ensures.node) low)
+    (rw number at (c.add_row.ensures table node (ap node number ∙ sym numbered.ensures.node) stated
+    (rw number old.counts.temporals_are) (rw number old.all_rows)))
 
-pub add_lanes-requires : goal.add_lanes-requires
-add_lanes-requires c =
-    let high : 6 ≤ (node_of c.args.nodes.now c.args.n).operator = omega (arith, c.operator-operator.ensures, c.if-operator-lt6.false) in
-    let room : c.args.before.temporals < 4 = omega (
-      arith,
-      few_temporals c.requires.0,
-      length_more 6 (node_of c.args.nodes.now) c.args.n high,
-      c.requires.1.temporals_are,
-    ) in
-    (ready c.requires.0 c.args.n (omega arith), high, few_states c.requires.0, room, c.requires.1, c.requires.3)
-
-pub counted-requires : goal.counted-requires
-counted-requires c =
-    let high : 6 ≤ (node_of c.args.nodes.now c.args.n).operator = omega (arith, c.operator-operator.ensures, c.if-operator-lt6.false) in
-    let room : c.args.before.temporals < 4 = omega (
-      arith,
-      few_temporals c.requires.0,
-      length_more 6 (node_of c.args.nodes.now) c.args.n high,
-      c.requires.1.temporals_are,
-    ) in (
-      c.if-operator-lt6.false,
-      room,
-      promises_few (node_of c.args.nodes.now) c.args.n c.args.before.temporals c.args.before.promises
-          c.requires.1 room,
-    )
-
-pub returns : goal.returns
-returns c table stated old =
-    let high : 6 ≤ (node_of c.args.nodes.now c.args.n).operator = omega (arith, c.operator-operator.ensures, c.if-operator-lt6.false) in
-    filled_temporal stated.count_is (few_states c.requires.0) old high
-    (c.add_pattern_row.ensures _ c.pattern.ensures)
-    c.add_lanes.ensures.0
-    (c.add_lanes.ensures.1 table stated.count_is)
-    (c.counted.ensures _ _ c.operator-operator.ensures old.counts)
+pub returns-in-Temporal : goal.returns-in-Temporal
+returns-in-Temporal c table stated old =
+    let numbered = c.read-numbered in
+    let number = numbered.ensures.number in
+    let node = node_of c.args.nodes.now in
+    let is : node numbered.result.number ≡ node_is numbered.result.node = ap node number ∙ sym numbered.ensures.node in
+    let operator_is = ap (λ (x : Node). x.operator) (sym numbered.ensures.node) ∙ ap code c.in-Temporal.is in
+    filled_temporal stated.count_is (few_states c.requires.filling) old
+    (rw number at (c.add_row.ensures table node is stated (rw number old.counts.temporals_are) (rw number old.all_rows)))
+    c.add_lanes.array_long
+    (λ rows all.
+    rw number at (c.add_lanes.ensures table node is stated.count_is (rw number old.counts) (rw number rows) (rw number all)))
+    (c.with.ensures node c.args.n operator_is old.counts)

@@ -7,8 +7,8 @@ use Rattle.bits.proofs.Bit.{digit, test_bit}
 use Rattle.filled.proofs.Lane.{lane_always}
 use Rattle.lanes.proofs.atom_lane.Goals as goal
 
-pub returns-then-label-atom-eq1 : goal.returns-then-label-atom-eq1
-returns-then-label-atom-eq1 c =
+pub returns-in-Atom : goal.returns-in-Atom
+returns-in-Atom c _ =
     let label = c.args.label in
     let atom = c.args.atom in
     lane_always (bit label atom) (λ e. refl)
@@ -16,8 +16,8 @@ returns-then-label-atom-eq1 c =
     let never : ◌≡◌ {A = ℕ} 1 0 = sym c.if-label-atom-eq1.true ∙ (test_bit label atom ∙ ap digit e) in
     absurd (omega arith))
 
-pub returns : goal.returns
-returns c =
+pub returns-in_default : goal.returns-in_default
+returns-in_default c _ =
     let label = c.args.label in
     let atom = c.args.atom in
     lane_always (bit label atom) (λ e. absurd (c.if-label-atom-eq1.false (test_bit label atom ∙ ap digit e))) (λ e. refl)

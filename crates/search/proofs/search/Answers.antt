@@ -1,20 +1,16 @@
 -- `search::search` meets its contract: the case's refusal, or what the search of an admitted case gives. Assumes nothing.
-use mathlib.Core.Path.{sym, ◌∙◌}
+use Rattle.std.proofs.lemmas.Result.{err_from_is_err_and}
 use Rattle.reading.proofs.Read.{case_refused}
 use Rattle.reading.proofs.Known.{known}
 use Rattle.search.proofs.Outcomes.{searched_refused, searched_read}
 use Rattle.search.proofs.search.Goals as goal
 
-pub search_admitted-requires : goal.search_admitted-requires
-search_admitted-requires c = sym c.admit.ensures ∙ c.in-Admitted.is
+pub returns-in_err-case : goal.returns-in_err-case
+returns-in_err-case c =
+    let p = err_from_is_err_and c.from_residual.result c.from_residual.ensures.1 in
+    rw (p.1, p.2) (searched_refused _ _ _ _ (case_refused _ _ c.in_err-case.ensures.refused))
 
-pub returns-in-Refused : goal.returns-in-Refused
-returns-in-Refused c =
-    let a = c.args in
-    searched_refused a.bytes.now a.workspace.now a.track.now _ (case_refused a.bytes.now _ (sym c.admit.ensures ∙ c.in-Refused.is))
-
-pub returns-in-Admitted : goal.returns-in-Admitted
-returns-in-Admitted c =
-    let a = c.args in
-    searched_read a.bytes.now a.workspace.now a.track.now c.search_admitted.result _ _
-    (known a.bytes.now _ (sym c.admit.ensures ∙ c.in-Admitted.is)).passed c.search_admitted.ensures
+pub returns : goal.returns
+returns c =
+    rw (← c.in_ok-case.ensures.read)
+    (searched_read _ _ _ c.search_admitted.result _ _ (known _ _ c.in_ok-case.case.admitted).passed c.search_admitted.ensures)

@@ -1,55 +1,36 @@
 -- `search::search_admitted` meets its contract: 40 and 41 in their order, then the verdict, with the workspace cleared. Assumes nothing.
-use Prim.Native.Nat.{ℕ, ◌*◌}
+use Prim.Native.Nat.{◌*◌}
+use Rattle.std.specs.Prelude.{Ok}
 use native.Mathlib.Omega.{arith}
-use mathlib.Core.Path.{◌≡◌, ap, ◌∙◌}
-use mathlib.Core.List.{List}
-use lib.ListN.{get_or}
-use Rattle.reading.specs.Parts.{places}
 use Rattle.reading.specs.Refusals.{parts_of}
-use Rattle.search.proofs.Prepared.{sizes_low, places_are, places_few, clear_zero, clear_twice, short_workspace, short_track, room_enough}
+use Rattle.reading.proofs.Known.{known}
+use Rattle.search.proofs.Prepared.{places_within, clear_zero, clear_twice, short_workspace, short_track, room_enough}
 use Rattle.search.proofs.search_admitted.Goals as goal
 
-pub places-places-requires : goal.places-places-requires
-places-places-requires c = sizes_low _ _ c.requires
-
 pub overflow_mul-needed : goal.overflow_mul-needed
-overflow_mul-needed c = omega (arith, c.places-places.ensures, places_few _ _ c.requires)
+overflow_mul-needed c =
+    omega (arith, c.sizes_of-places.ensures.places, places_within (known _ _ c.args.case.now.admitted).facts)
 
 pub returns-then-workspace-needed : goal.returns-then-workspace-needed
-returns-then-workspace-needed c =
-    let size_is : c.places-places.result ≡ places (parts_of c.args.bytes.now) = c.places-places.ensures ∙ places_are _ _ c.requires in
-    let a = c.args in
-    short_workspace (parts_of a.bytes.now) a.workspace.now a.track.now c.places-places.result size_is c.if-workspace-needed.true
+returns-then-workspace-needed c = short_workspace _ _ _ _ c.sizes_of-places.ensures.places c.if-workspace-needed.true
 
 pub returns-then-track-track_needed : goal.returns-then-track-track_needed
 returns-then-track-track_needed c =
-    let size_is : c.places-places.result ≡ places (parts_of c.args.bytes.now) = c.places-places.ensures ∙ places_are _ _ c.requires in
-    let a = c.args in
-    short_track (parts_of a.bytes.now) a.workspace.now a.track.now c.places-places.result size_is c.if-workspace-needed.false c.if-track-track_needed.true
+    short_track _ _ _ _ c.sizes_of-places.ensures.places c.if-workspace-needed.false c.if-track-track_needed.true
 
-pub verdict-answer-requires : goal.verdict-answer-requires
-verdict-answer-requires c =
-    let size_is : c.places-places.result ≡ places (parts_of c.args.bytes.now) = c.places-places.ensures ∙ places_are _ _ c.requires in
+pub verdict-found-requires : goal.verdict-found-requires
+verdict-found-requires c =
+    let is = c.sizes_of-places.ensures.places in
     record {
-      read = c.requires;
-      sized = size_is;
-      room = (
-        omega (arith, c.clear.auto.workspace, c.if-workspace-needed.false),
-        λ i h.
-            ap (λ (l : List ℕ). get_or l i 0) c.clear.ensures
-            ∙ clear_zero (6 * c.places-places.result) c.args.workspace.now i (omega arith),
-      );
-      track_room = c.if-track-track_needed.false;
+      room = omega (arith, c.clear.auto.workspace, c.if-workspace-needed.false, is);
+      cleared = λ i h. rw c.clear.ensures (clear_zero (6 * c.sizes_of-places.result.places) c.args.workspace.now i (omega (arith, is)));
+      track_room = omega (arith, c.if-track-track_needed.false, is);
     }
 
 pub returns : goal.returns
 returns c =
-    let size_is : c.places-places.result ≡ places (parts_of c.args.bytes.now) = c.places-places.ensures ∙ places_are _ _ c.requires in
-    let a = c.args in
-    let case = parts_of a.bytes.now in
-    let ws = a.workspace.now in
-    room_enough case ws a.track.now c.places-places.result size_is c.verdict-answer.result _ c.if-workspace-needed.false
-    c.if-track-track_needed.false
-    (c.clear-2.ensures
-    ∙ clear_twice case c.places-places.result ws c.clear.new.workspace c.verdict-answer.new.workspace size_is c.clear.ensures c.verdict-answer.ensures.kept)
-    (c.verdict-answer.ensures.decides ws)
+    let is = c.sizes_of-places.ensures.places in
+    let ws = c.args.workspace.now in
+    room_enough _ ws _ _ is (Ok c.verdict-found.result) _ c.if-workspace-needed.false c.if-track-track_needed.false
+    (rw c.clear-2.ensures (clear_twice (parts_of c.args.case.now.bytes.now) _ ws _ _ is c.clear.ensures c.verdict-found.ensures.kept))
+    (c.verdict-found.ensures.decides ws)

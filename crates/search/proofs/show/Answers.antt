@@ -1,50 +1,32 @@
--- `search::show` meets its contract: the loop is folded, then the stem, and what is left is written. Assumes nothing.
+-- `search::show` meets its contract: a loop that was met is a run that lies on the stacks, and folded it breaks the rule too. Assumes nothing.
 use Prim.Native.Nat.{◌<◌}
 use native.Mathlib.Omega.{arith}
-use mathlib.Core.Path.{refl}
-use Rattle.meaning.proofs.Folds.{folds}
+use Rattle.workspace.proofs.Tracks.{met_stands, met_room}
+use Rattle.search.proofs.Prepared.{places_within, decides_violated}
 use Rattle.search.proofs.show.Goals as goal
 
-pub overflow_add-m : goal.overflow_add-m
-overflow_add-m c = omega (arith, c.requires.stacked)
+pub find-stem-requires : goal.find-stem-requires
+find-stem-requires c = (met_stands c.requires.met.0 c.requires.met.1).0
 
-pub overflow_sub-m : goal.overflow_sub-m
-overflow_sub-m c = omega (arith, c.requires.stacked)
+pub overflow_sub-found-2 : goal.overflow_sub-found-2
+overflow_sub-found-2 c =
+    let s = met_stands c.requires.met.0 c.requires.met.1 in
+    omega (arith, c.find-stem.ensures.first s.0, s.1)
 
-pub overflow_sub-m-2 : goal.overflow_sub-m-2
-overflow_sub-m-2 c =
-    let low : c.find-k.result < c.args.outer = omega (arith, c.find-k.ensures.first c.requires.at_outer.0, c.requires.at_outer.1) in
-    omega (arith, low, c.requires.stacked)
-
-pub fold_loop-repeat-requires : goal.fold_loop-repeat-requires
-fold_loop-repeat-requires c =
-    let low : c.find-k.result < c.args.outer = omega (arith, c.find-k.ensures.first c.requires.at_outer.0, c.requires.at_outer.1) in
-    omega (arith, low, c.requires.stacked)
-
-pub fold_stem-stem-requires : goal.fold_stem-stem-requires
-fold_stem-stem-requires c =
-    let low : c.find-k.result < c.args.outer = omega (arith, c.find-k.ensures.first c.requires.at_outer.0, c.requires.at_outer.1) in
-    omega (arith, low, c.requires.stacked, c.fold_loop-repeat.ensures.0, c.fold_loop-repeat.ensures.1)
-
-pub overflow_add-stem : goal.overflow_add-stem
-overflow_add-stem c =
-    let low : c.find-k.result < c.args.outer = omega (arith, c.find-k.ensures.first c.requires.at_outer.0, c.requires.at_outer.1) in
-    omega (arith, low, c.requires.stacked, c.fold_loop-repeat.ensures.1, c.fold_stem-stem.ensures.0)
-
-pub write-requires : goal.write-requires
-write-requires c =
-    let low : c.find-k.result < c.args.outer = omega (arith, c.find-k.ensures.first c.requires.at_outer.0, c.requires.at_outer.1) in
-    omega (arith, low, c.requires.stacked, c.fold_loop-repeat.ensures.1, c.fold_stem-stem.ensures.0)
+pub invariant_of-found : goal.invariant_of-found
+invariant_of-found c =
+    let p = c.requires.met in
+    let s = met_stands p.0 p.1 in
+    let low : c.find-stem.result < c.args.hit.outer = omega (arith, c.find-stem.ensures.first s.0, s.1) in
+    let room = met_room p.0 p.1 in
+    record {
+      outer_lies = room.1.0;
+      run_lies = omega (arith, room.1.1);
+      some_loop = omega (arith, room.0);
+      fits = omega (arith, room.2, p.0.size_is, places_within p.0.admitted);
+    }
 
 pub returns : goal.returns
-returns c =
-    let stem = c.fold_stem-stem in
-    let loop = c.fold_loop-repeat in (
-      c.find-k.result,
-      stem.result,
-      loop.result,
-      refl,
-      c.find-k.ensures,
-      folds _ _ _ _ _ loop.ensures.0 loop.ensures.1 stem.ensures.0 loop.ensures.2 stem.ensures.1,
-      c.write.ensures,
-    )
+returns c x met =
+    let run = c.folded-run.ensures in
+    decides_violated x met c.find-stem.ensures run.folds (rw (run.workspace, run.places, run.outer) at c.write.ensures) c.requires.room

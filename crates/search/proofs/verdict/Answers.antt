@@ -1,98 +1,89 @@
 -- `search::verdict` meets its contract: the arrays that it fills are the setting of a search over the case, and what the search shows there
 -- is the verdict. Assumes nothing.
-use Prim.Native.Nat.{ℕ}
+use Prim.Native.Nat.{◌-◌, ◌*◌}
 use native.Mathlib.Omega.{arith}
 use mathlib.Core.Path.{refl}
-use lib.ListN.{length-replicate}
 use Rattle.filled.proofs.Rows.{blank_zeros}
-use Rattle.workspace.proofs.Tracks.{met_stands, met_room}
+use Rattle.workspace.proofs.Setting.{Setting}
+use Rattle.workspace.proofs.Roots.{Rooting}
+use Rattle.workspace.proofs.ViewsIn.{OuterIn}
 use Rattle.search.proofs.Prepared as prepared
 use Rattle.search.proofs.verdict.Goals as goal
+use Rattle.search.proofs.verdict.Goals.{After-sizes_of-sizes}
 
 pub fill-requires : goal.fill-requires
-fill-requires c = (
-  prepared.filling _ _ c.requires.read c.state_list-states.ensures c.node_list-nodes.ensures,
-  blank_zeros 2048,
-  blank_zeros 1024,
-)
+fill-requires c = record {
+  filling = prepared.filling _ _ c.args.case.now.admitted c.states-states.ensures c.nodes.ensures;
+  blank_rows = blank_zeros 2048;
+  blank_lanes = blank_zeros 1024;
+}
 
 pub fill-requires-2 : goal.fill-requires-2
-fill-requires-2 c = (prepared.edges_leaving _ _ c.requires.read c.edge_list-edges.ensures, length-replicate {A = ℕ} 65 0)
+fill-requires-2 c = prepared.edges_leaving _ _ c.args.case.now.admitted c.edges-edges.ensures
 
-pub guesses-guesses-requires : goal.guesses-guesses-requires
-guesses-guesses-requires c = (prepared.sizes_low _ _ c.requires.read).1
+pub overflow_sub-roots : goal.overflow_sub-roots
+overflow_sub-roots c = (prepared.some_node _ _ c.args.case.now.admitted).0
 
-pub overflow_sub-last : goal.overflow_sub-last
-overflow_sub-last c =
-    let k = prepared.read _ _ c.requires.read in
-    omega (arith, k.nodes_is, k.facts.some_node)
-
-pub overflow_mul-last : goal.overflow_mul-last
-overflow_mul-last c =
-    let k = prepared.read _ _ c.requires.read in
-    omega (arith, k.nodes_is, k.facts.few_nodes)
+pub overflow_mul-roots : goal.overflow_mul-roots
+overflow_mul-roots c = omega (arith, prepared.some_node _ _ c.args.case.now.admitted)
 
 -- ---- the search's setting, and what it starts from
 
-pub search_roots-requires : goal.search_roots-requires
-search_roots-requires c =
-    let bytes = c.args.bytes.now in
-    let case = c.requires.read in
-    let filled = c.fill.ensures (prepared.filling bytes c.args.shape case c.state_list-states.ensures c.node_list-nodes.ensures) in
-    let setting = prepared.setting bytes c.args.shape case c.edge_list-edges.ensures filled.all_lanes c.fill-2.ensures c.guesses-guesses.ensures.0
-    c.ones-ones.ensures c.requires.sized in
-    let rooting = prepared.rooting bytes c.args.shape case c.state_list-states.ensures filled.all_rows refl c.guesses-guesses.ensures.0 in
-    let begun = prepared.started setting c.args.workspace.now c.requires.room.0 c.requires.room.1 in
-    (setting, rooting, refl, begun)
+abbrev case_in : (c : After-sizes_of-sizes)
+    → let sizes = c.sizes_of-sizes.result in
+    Setting c.edges-edges.result.now c.fill.new.lanes c.fill-2.new.starts sizes.guesses sizes.ones sizes.top sizes.places
+case_in c =
+    let known = c.args.case.now.admitted in
+    let filled = c.fill.ensures (prepared.filling _ _ known c.states-states.ensures c.nodes.ensures) in
+    let sizes = c.sizes_of-sizes.ensures in
+    prepared.setting _ _ known c.edges-edges.ensures filled.all_lanes c.fill-2.ensures sizes.guesses sizes.ones sizes.top sizes.places
+
+abbrev roots_in : (c : After-sizes_of-sizes)
+    → Rooting c.states-states.result.now c.fill.new.rows ((c.args.case.now.shape.nodes - 1) * 64) c.sizes_of-sizes.result.guesses
+roots_in c =
+    let known = c.args.case.now.admitted in
+    let filled = c.fill.ensures (prepared.filling _ _ known c.states-states.ensures c.nodes.ensures) in
+    prepared.rooting _ _ known c.states-states.ensures filled.all_rows c.sizes_of-sizes.ensures.guesses
+
+begun : (c : After-sizes_of-sizes) → OuterIn (case_in c) 0 c.args.workspace.now 0
+begun c =
+    let places = c.sizes_of-sizes.ensures.places in
+    prepared.started (case_in c) c.args.workspace.now (omega (arith, places, c.requires.room)) (λ i h. c.requires.cleared i (omega (arith, places)))
+
+pub search-requires : goal.search-requires
+search-requires c =
+    let was = (goal.at.search-requires c).After-sizes_of-sizes in
+    (record { case = case_in was; roots_are = roots_in was; same = refl }, begun was)
 
 -- ---- what it shows
 
 pub show-requires : goal.show-requires
 show-requires c =
-    let bytes = c.args.bytes.now in
-    let case = c.requires.read in
-    let filled = c.fill.ensures (prepared.filling bytes c.args.shape case c.state_list-states.ensures c.node_list-nodes.ensures) in
-    let setting = prepared.setting bytes c.args.shape case c.edge_list-edges.ensures filled.all_lanes c.fill-2.ensures c.guesses-guesses.ensures.0
-    c.ones-ones.ensures c.requires.sized in
-    let rooting = prepared.rooting bytes c.args.shape case c.state_list-states.ensures filled.all_rows refl c.guesses-guesses.ensures.0 in
-    let begun = prepared.started setting c.args.workspace.now c.requires.room.0 c.requires.room.1 in
-    let met = c.search_roots.ensures.met setting rooting refl begun _ _ _ c.in-Loop.is in
-    let room = met_room setting met in
+    let was = (goal.at.show-requires c).After-sizes_of-sizes in
     record {
-      at_outer = met_stands setting met;
-      stacked = (
-        room.0,
-        room.1,
-        omega (arith, room.2, c.requires.track_room),
-        omega (arith, room.2, prepared.places_few c.args.bytes.now c.args.shape c.requires.read, prepared.places_are c.args.bytes.now c.args.shape c.requires.read, c.requires.sized),
+      met = (
+        case_in was,
+        c.in-Break.ensures.searched (record { case = case_in was; roots_are = roots_in was; same = refl }) (begun was),
       );
+      room = omega (arith, c.sizes_of-sizes.ensures.places, c.requires.track_room);
     }
 
-pub returns-in-Nothing : goal.returns-in-Nothing
-returns-in-Nothing c =
-    let bytes = c.args.bytes.now in
-    let case = c.requires.read in
-    let filled = c.fill.ensures (prepared.filling bytes c.args.shape case c.state_list-states.ensures c.node_list-nodes.ensures) in
-    let setting = prepared.setting bytes c.args.shape case c.edge_list-edges.ensures filled.all_lanes c.fill-2.ensures c.guesses-guesses.ensures.0
-    c.ones-ones.ensures c.requires.sized in
-    let rooting = prepared.rooting bytes c.args.shape case c.state_list-states.ensures filled.all_rows refl c.guesses-guesses.ensures.0 in
-    let begun = prepared.started setting c.args.workspace.now c.requires.room.0 c.requires.room.1 in
+pub returns-in-Continue : goal.returns-in-Continue
+returns-in-Continue c =
+    let was = (goal.at.returns-in-Continue c).After-sizes_of-sizes in
     record {
-      kept = c.search_roots.ensures.kept;
-      decides = λ lent. prepared.decides_holds setting (c.search_roots.ensures.nothing setting rooting refl begun c.in-Nothing.is) lent _;
+      kept = rw c.sizes_of-sizes.ensures.places at c.search.ensures.kept;
+      decides = λ lent.
+          prepared.decides_holds (case_in was)
+          (c.in-Continue.ensures.searched (record { case = case_in was; roots_are = roots_in was; same = refl }) (begun was)) lent _;
     }
 
-pub returns-in-Loop : goal.returns-in-Loop
-returns-in-Loop c =
-    let bytes = c.args.bytes.now in
-    let case = c.requires.read in
-    let filled = c.fill.ensures (prepared.filling bytes c.args.shape case c.state_list-states.ensures c.node_list-nodes.ensures) in
-    let setting = prepared.setting bytes c.args.shape case c.edge_list-edges.ensures filled.all_lanes c.fill-2.ensures c.guesses-guesses.ensures.0
-    c.ones-ones.ensures c.requires.sized in
-    let rooting = prepared.rooting bytes c.args.shape case c.state_list-states.ensures filled.all_rows refl c.guesses-guesses.ensures.0 in
-    let begun = prepared.started setting c.args.workspace.now c.requires.room.0 c.requires.room.1 in
-    let met = c.search_roots.ensures.met setting rooting refl begun _ _ _ c.in-Loop.is in
+pub returns-in-Break : goal.returns-in-Break
+returns-in-Break c =
+    let was = (goal.at.returns-in-Break c).After-sizes_of-sizes in
     record {
-      kept = c.search_roots.ensures.kept;
-      decides = prepared.decides_violated setting met c.show.ensures.4 c.show.ensures.5 c.show.ensures.6 c.requires.track_room c.show.result c.show.ensures.3;
+      kept = rw c.sizes_of-sizes.ensures.places at c.search.ensures.kept;
+      decides =
+          c.show.ensures (case_in was)
+          (c.in-Break.ensures.searched (record { case = case_in was; roots_are = roots_in was; same = refl }) (begun was));
     }

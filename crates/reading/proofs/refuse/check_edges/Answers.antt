@@ -1,13 +1,19 @@
--- `reading::refuse::check_edges` meets its contract. By where the walk ended. Assumes nothing.
-use mathlib.Core.Path.{sym, ◌∙◌}
-use Rattle.reading.proofs.Rows.{refused_end, refused_order, no_edge_refused}
+-- The first bad edge, by the first of its two rows, or none.
+use Rattle.std.proofs.Common.{sym, ◌∙◌, arith, cond}
+use Rattle.reading.specs.Refusals.{edges_refusal, bad_end, not_above}
+use Rattle.reading.specs.declared.CaseRefusal.TheVariants.{End, Order}
+use Rattle.reading.proofs.Rows.{refused_first, refused_second, none_refused}
 use Rattle.reading.proofs.refuse.check_edges.Goals as goal
 
 pub returns-then-bad_end : goal.returns-then-bad_end
-returns-then-bad_end c = refused_end _ _ _ c.lowest_bad_edge-e.ensures c.if-e-list.true (sym c.bad_end.ensures ∙ c.if-bad_end.true)
+unfolding edges_refusal
+returns-then-bad_end c = refused_first (bad_end c.args.states c.args.list.now) (not_above c.args.list.now) _ End Order _ c.loop-e-test.true c.loop-e.invariant (sym c.bad_end.ensures ∙ c.if-bad_end.true)
 
-pub returns-then-e-list : goal.returns-then-e-list
-returns-then-e-list c = refused_order _ _ _ c.lowest_bad_edge-e.ensures c.if-e-list.true (sym c.bad_end.ensures ∙ c.if-bad_end.false)
+pub returns-then-not_above : goal.returns-then-not_above
+unfolding edges_refusal
+returns-then-not_above c =
+    refused_second (bad_end c.args.states c.args.list.now) (not_above c.args.list.now) _ End Order _ c.loop-e-test.true c.loop-e.invariant (sym c.bad_end.ensures ∙ c.if-bad_end.false) (sym c.not_above.ensures ∙ c.if-not_above.true)
 
 pub returns : goal.returns
-returns c = no_edge_refused _ _ _ c.lowest_bad_edge-e.ensures c.if-e-list.false
+unfolding edges_refusal
+returns c = none_refused _ _ (λ j. cond (bad_end c.args.states c.args.list.now j) (End j) (Order j)) (λ j h. c.loop-e.invariant j (omega (arith, h, c.loop-e-test.false)))

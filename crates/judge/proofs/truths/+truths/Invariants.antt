@@ -1,5 +1,0 @@
--- The measure is the number of nodes.
-use Rattle.judge.proofs.truths.+truths.Given as goal
-
-abbrev pub decreases-truths : goal.decreases-truths
-decreases-truths l = l.n

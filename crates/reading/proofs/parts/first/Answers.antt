@@ -1,7 +1,0 @@
--- `reading::parts::first` meets its contract. By what `byte` ensures. Assumes nothing.
-use Rattle.reading.specs.Parts.{node_of}
-use Rattle.reading.proofs.parts.first.Goals as goal
-
-pub returns : goal.returns
-unfolding node_of
-returns c = c.byte.ensures.0

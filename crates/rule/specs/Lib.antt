@@ -1,0 +1,2 @@
+-- What contracts cite of the operators as the code holds them.
+pub mod Operator
