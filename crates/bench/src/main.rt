@@ -28,7 +28,8 @@ fn main(rt: HostRuntime) -> io::Result<()> {
     rt.stdout().write_all(&out[..filled])
 }
 
-// Reads until the input ends or the room is full.
+// Reads until the input ends or the room is full. (Not `read_exact`, since the input may end first; and not `read_to_end`, since there is no
+// heap for a Vec. So the length stands beside the room.)
 fn read_case<R: Read>(from: &mut R, room: &mut [u8]) -> io::Result<usize>
     ensures within { Within result (length room.new) }
     ensures taken { Takes (R.remaining from.old) (R.remaining from.new) result room.new }

@@ -39,6 +39,7 @@ pub enum Verdict {
     Violated,
 }
 
+// What is told of a refusal and of a verdict is by hand: the definitions that promises go by have a row for each variant.
 impl RunRefusal {
     // The row of a refusal.
     pub fn number(self) -> usize
@@ -90,23 +91,25 @@ impl Refusal {
     }
 }
 
+// A refused case refuses the run. By hand, as the next: a derive writes no `from_gives`, which says what a `?` makes of it.
 impl From<CaseRefusal> for Refusal {
     ghost use Rattle.judge.specs.declared.Refusal.TheVariants.{Case as refused};
 
     ghost from_gives = { λ r e. e ≡ refused r };
 
-    fn from(r: CaseRefusal) -> Refusal {
-        Refusal::Case(r)
+    fn from(r: CaseRefusal) -> Self {
+        Self::Case(r)
     }
 }
 
+// A refused run.
 impl From<RunRefusal> for Refusal {
     ghost use Rattle.judge.specs.declared.Refusal.TheVariants.{Run as refused};
 
     ghost from_gives = { λ r e. e ≡ refused r };
 
-    fn from(r: RunRefusal) -> Refusal {
-        Refusal::Run(r)
+    fn from(r: RunRefusal) -> Self {
+        Self::Run(r)
     }
 }
 

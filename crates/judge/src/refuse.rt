@@ -22,11 +22,14 @@ pub fn check_run<'a>(
     ensures refused { IfErr result (λ r. run_refusal (table_of (parts_of case.now.bytes.now)) track.now k m room ≡ Err r) }
     ensures passed { IfOk result (λ run. run_refusal (table_of (parts_of case.now.bytes.now)) run.track.now run.k run.m room
         ≡ Ok tt) }
-    ensures held { IfOk result (λ run. (run.track.now ≡ track.now) × (run.k ≡ k) × (run.m ≡ m)) }
+    ensures track { IfOk result (λ run. run.track.now ≡ track.now) }
+    ensures k { IfOk result (λ run. run.k ≡ k) }
+    ensures m { IfOk result (λ run. run.m ≡ m) }
 {
     if m == 0 {
         return Err(RunRefusal::NoLoop);
     }
+    // `as`, here and below: std has no From between u64 and usize
     let length = track.len() as u64;
     if length < k || length - k < m {
         return Err(RunRefusal::TooLong(track.len()));

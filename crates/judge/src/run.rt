@@ -28,7 +28,8 @@ impl Run<'_> {
         usize::from(self.track[i])
     }
 
-    // The entry after an entry of the run: after the last comes entry k.
+    // The entry after an entry of the run: after the last comes entry k. (`tracks::Run::entry_at` is so within a whole turn: an `if` each, in
+    // crates of which neither stands on the other.)
     #[tactic(auto, using(meaning::proofs::Loops::position_in, scratch::proofs::Entries::position_ends))]
     pub(crate) fn after(&self, i: usize) -> usize
         requires { i < self.now.k + self.now.m }

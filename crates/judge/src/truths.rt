@@ -10,9 +10,9 @@ ghost use Rattle.scratch.proofs.Scratch.{node_with, now_in, stay_in, plain_in, a
 
 use crate::run::Run;
 pub use crate::word::Entry;
-use crate::word::{Operands, is_set, with_bit};
+use crate::word::{Operands, with_bit};
 use reading::parts;
-use rule::{Operator, Plain, Temporal};
+use rule::{Operator, Plain, Temporal, is_set};
 
 // A rule and a run of its table: the truth of each node can be told at each entry.
 #[derive(Clone, Copy)]
@@ -23,7 +23,9 @@ pub struct Judging<'a> {
     pub ghost tellable: { Tellable states.now nodes.now run.track.now run.k run.m },
 }
 
-// That there are as many entries as the run has is a clause of each method: a ghost field beside a `&mut` is not covered.
+// The entries stand beside it, and three methods ask for as many as the run has. In one struct with their `&mut`, five would promise that
+// the rule, the run and the borrow stay the same, as `text`'s `Adds` does by `same_array`. That bit n is still to be added (`Adding`) speaks of the entries too, so it stays a
+// clause of the three functions that add a node.
 impl Judging<'_> {
     ghost use Rattle.judge.specs.Truths.{value, Valued};
 
@@ -88,9 +90,9 @@ impl Judging<'_> {
             AddedTo n (plain_in node (labels_of self.now.states.now self.now.run.track.now) entries.old)
             entries.old entries.new }
     {
-        for i in 0..entries.len() {
+        for (i, entry) in entries.iter_mut().enumerate() {
             let label = parts::label(self.states, self.run.entry(i));
-            entries[i] = with_bit(entries[i], n, operands.plain(operator, label, entries[i]));
+            *entry = with_bit(*entry, n, operands.plain(operator, label, *entry));
         }
     }
 
@@ -102,6 +104,7 @@ impl Judging<'_> {
         ensures { AddedTo n (λ i. bit (at entries.old (position self.now.run.k self.now.run.m (suc i))) operand)
             entries.old entries.new }
     {
+        // by index, since another entry is read while this one is written
         for i in 0..entries.len() {
             let next = entries[self.run.after(i)];
             entries[i] = with_bit(entries[i], n, is_set(next, operand));
@@ -109,7 +112,7 @@ impl Judging<'_> {
     }
 
     // The first pass: over the loop from the last entry down, with the pole as the seed. It gives the truth at entry k.
-    #[tactic(auto, using(scratch::proofs::Bits::one_is, scratch::proofs::Bits::pass_down), unfolding(rule::proofs::Passes::pass, rule::proofs::Passes::seed))]
+    #[tactic(auto, unfolding(rule::proofs::Passes::seed))]
     fn loop_seed(&self, operator: Temporal, operands: Operands, entries: &[Entry]) -> bool
         requires { length entries.now ≡ self.now.run.k + self.now.run.m }
         ensures { let node = node_with (temporal_code operator) operands.first operands.second in
@@ -117,8 +120,8 @@ impl Judging<'_> {
             self.now.run.k self.now.run.m }
     {
         let mut next = operator.pole_word(1) == 1;
-        for i in (self.run.k..entries.len()).rev() {
-            next = operands.carried(operator, entries[i], next);
+        for entry in entries[self.run.k..].iter().rev() {
+            next = operands.carried(operator, *entry, next);
         }
         next
     }
@@ -133,6 +136,7 @@ fn add_lasting(operator: Temporal, operands: Operands, n: usize, seed: bool, ent
         entries.old entries.new }
 {
     let mut next = seed;
+    // by index: after `iter_mut().rev()` a proof knows how many entries there are, and not what is in them
     for i in (0..entries.len()).rev() {
         next = operands.carried(operator, entries[i], next);
         entries[i] = with_bit(entries[i], n, next);

@@ -6,19 +6,10 @@ ghost use Rattle.meaning.specs.Laws.{plain, now, stay};
 ghost use Rattle.rule.specs.Operator.{plain_code, temporal_code};
 ghost use Rattle.scratch.proofs.Scratch.{width, added};
 
-use rule::{Plain, Temporal};
+use rule::{Plain, Temporal, is_set};
 
 // An entry of the scratch: a bit for each node.
 pub type Entry = u32;
-
-// Whether bit j of a word is set.
-#[tactic(auto, using(bits::proofs::Bit::test_bit, bits::proofs::Bit::eqb_digit))]
-pub fn is_set(word: Entry, j: usize) -> bool
-    requires { j < width }
-    ensures { result ≡ bit_of word j }
-{
-    (word >> j) & 1 == 1
-}
 
 // A word with bit n added.
 pub fn with_bit(word: Entry, n: usize, bit: bool) -> Entry
@@ -39,7 +30,7 @@ pub struct Operands {
     pub ghost second_narrow: { second < width },
 }
 
-// Bit j of a word, as a word of one truth value.
+// Bit j of a word, as a word of one truth value: a u16, since the operators of `rule` take words of 16 bits.
 fn truth(word: Entry, j: usize) -> u16
     requires { j < width }
     ensures { result ≡ digit (bit_of word j) }

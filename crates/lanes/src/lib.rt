@@ -1,8 +1,9 @@
 // Lanes: a 16-bit word whose bit b speaks of a state with bits b, for all b at once. `rows` has the truth of node n in state s at
 // n * 64 + s. `lanes` has sixteen words for each state s, from s * 16 on: NEED + t, whether the bit of temporal node number t must
 // be carried on by the next place; CARRY + t, what it is carried on by; MET + e, whether promise e is met; and FAILS, whether
-// nothing follows, since some bit that is not carried on is not what it has to be at once. Both are flat, since the scans read them
-// so, a word at a time, and so do the theorems about them (Rows and Lanes of `product`).
+// nothing follows, since some bit that is not carried on is not what it has to be at once. Both are flat: Rattle proves a write into
+// [[u16; 16]; 64], but a contract reads that as a list of lists, and each of the six reads and five writes would need a lemma
+// beside it that it is the entry at s * 16 + k, of which the theorems of `product`, `filled` and `workspace` speak.
 #![tactic(auto)]
 
 ghost use Rattle.std.specs.Prelude.{◌≡◌, cond, not, ◌||◌, ℕ, suc, ◌+◌, ◌*◌, ◌/◌, ◌≤◌, ◌<◌, length, get_or};
@@ -13,15 +14,21 @@ ghost use Rattle.rule.specs.Operator.{temporal_code, code};
 ghost use Rattle.reading.specs.Parts.{node_of, table_of};
 ghost use Rattle.reading.specs.Node.{node_is};
 ghost use Rattle.product.specs.Product.{truth, carried, temporal};
-ghost use Rattle.product.proofs.Lanes.{Rows, Lanes};
+ghost use Rattle.product.proofs.Lanes.{Rows as RowsOf, Lanes as LanesOf};
 ghost use Rattle.filled.proofs.Lane.{Lane};
 ghost use Rattle.filled.proofs.Filling.{Filling, Filled, Blank, Counted, Ready, Stated, RowAdded, NodeLanes};
 ghost use Rattle.filled.proofs.Stores.{stores};
 
 use reading::parts::{self, Node};
-use rule::{Operator, Plain, Temporal};
+use rule::{Operator, Plain, Temporal, is_set};
 
 pub mod starts;
+
+// The truths of the nodes, by node and state.
+pub type Rows = [u16; 2048];
+
+// The lanes, by state.
+pub type Lanes = [u16; 1024];
 
 pub const ONES: u16 = 65535;
 
@@ -43,7 +50,8 @@ pub struct Counts {
 }
 
 impl Counts {
-    // With a node of this operator added: a temporal node, and a promise unless it is X.
+    // With a node of this operator added: a temporal node, and a promise unless it is X. `temporals < 4` is no field: the counts after
+    // the last node may be 4.
     fn with(self, operator: Temporal) -> Self
         requires { self.temporals < 4 }
         ensures { (node : ℕ → Meaning.Node) (n : ℕ) → (node n).operator ≡ temporal_code operator
@@ -77,18 +85,20 @@ pub fn pattern(t: usize) -> u16
 }
 
 // An atom's truth in a state with this label, whatever the bits; 0 for another operator.
+#[tactic(auto, using(filled::proofs::Lane::lane_true, filled::proofs::Lane::lane_false))]
 fn atom_lane(operator: Plain, label: u16, atom: usize) -> u16
     requires { operator ≡ Plain.Atom → atom < 16 }
     ensures { operator ≡ Plain.Atom → Lane (λ b. bit label atom) result }
 {
     match operator {
-        Plain::Atom if label >> atom & 1 == 1 => ONES,
+        Plain::Atom if is_set(u32::from(label), atom) => ONES,
         _ => 0,
     }
 }
 
-// The lane of node x in state s.
-fn row_lane(rows: &[u16; 2048], x: usize, s: usize) -> u16
+// The lane of node x in state s. `s < 64` stays a clause here and below: as a type, each function would take the number out again, and
+// each loop over the states would put it in.
+fn row_lane(rows: &Rows, x: usize, s: usize) -> u16
     requires low { x < 32 }
     requires within { s < 64 }
     ensures { result ≡ get_or rows.now (x * 64 + s) 0 }
@@ -119,7 +129,7 @@ struct Words {
 impl Words {
     // Puts them into the lanes of state s, for the next temporal node and the next promise. X has none, and the word that it leaves is
     // not read.
-    fn store(self, before: Counts, s: usize, lanes: &mut [u16; 1024])
+    fn store(self, before: Counts, s: usize, lanes: &mut Lanes)
         requires few { before.temporals < 4 }
         requires within { s < 64 }
         ensures { lanes.new ≡ stores before.temporals before.promises s self.need self.carry self.met self.fails lanes.old }
@@ -139,6 +149,8 @@ struct Numbered {
     ghost ready: { Ready (node_is node) number },
 }
 
+// What each method ensures holds of any table and rule that has this node at its number: a field cannot say that, since the contract is
+// what brings them in.
 impl Numbered {
     // Node n of an admitted case.
     fn read(nodes: &[u8], n: usize) -> Self
@@ -154,7 +166,7 @@ impl Numbered {
     }
 
     // The lanes of its operands in state s, 0 for one that its operator does not have.
-    fn operand_lanes(self, s: usize, rows: &[u16; 2048]) -> (u16, u16)
+    fn operand_lanes(self, s: usize, rows: &Rows) -> (u16, u16)
         requires { s < 64 }
         ensures first { 1 ≤ operands (code self.node.operator) → result.0 ≡ get_or rows.now (self.node.first * 64 + s) 0 }
         ensures second { 2 ≤ operands (code self.node.operator) → result.1 ≡ get_or rows.now (self.node.second * 64 + s) 0 }
@@ -170,12 +182,12 @@ impl Numbered {
     }
 
     // Its lane in a state with this label, from the rows below: what its operator computes, or its pattern as the next temporal node.
-    fn truth_lane(self, label: u16, temporals: usize, s: usize, rows: &[u16; 2048]) -> u16
+    fn truth_lane(self, label: u16, temporals: usize, s: usize, rows: &Rows) -> u16
         requires within { s < 64 }
         requires few { 6 ≤ code self.node.operator → temporals < 4 }
         ensures { (table : Meaning.Table) (node : ℕ → Meaning.Node) → node self.number ≡ node_is self.node
             → table.label s ≡ label → s < table.states → temporals ≡ length (temporal node self.number)
-            → Rows table node self.number rows.now
+            → RowsOf table node self.number rows.now
             → Lane (truth table node self.number s) result }
     {
         match self.node.operator {
@@ -188,12 +200,12 @@ impl Numbered {
     }
 
     // Adds its row.
-    fn add_row(self, states: &[u8], temporals: usize, rows: &mut [u16; 2048])
+    fn add_row(self, states: &[u8], temporals: usize, rows: &mut Rows)
         requires few_states { length states.now / 3 ≤ 64 }
         requires few { 6 ≤ code self.node.operator → temporals < 4 }
         ensures { (table : Meaning.Table) (node : ℕ → Meaning.Node) → node self.number ≡ node_is self.node
             → Stated table states.now → temporals ≡ length (temporal node self.number)
-            → Rows table node self.number rows.old
+            → RowsOf table node self.number rows.old
             → RowAdded self.number (length states.now / 3) (truth table node self.number) rows.old rows.new }
     {
         for s in 0..states.len() / 3 {
@@ -205,62 +217,61 @@ impl Numbered {
             );
         }
     }
+}
 
+// A node that is temporal, with its operator.
+#[derive(Clone, Copy)]
+struct TemporalNode {
+    numbered: Numbered,
+    operator: Temporal,
+    ghost operator_is: { code numbered.node.operator ≡ temporal_code operator },
+}
+
+impl TemporalNode {
     // What it reads of the next place: X its operand, another operator itself.
-    fn carry_lane(self, operator: Temporal, s: usize, rows: &[u16; 2048]) -> u16
-        requires operator_is { self.node.operator ≡ Operator.Temporal operator }
-        requires within { s < 64 }
-        ensures { (table : Meaning.Table) (node : ℕ → Meaning.Node) → node self.number ≡ node_is self.node
-            → s < table.states → Rows table node (suc self.number) rows.now
-            → Lane (carried table node self.number s) result }
+    fn carry_lane(self, s: usize, rows: &Rows) -> u16
+        requires { s < 64 }
+        ensures { let n = self.numbered.number in (table : Meaning.Table) (node : ℕ → Meaning.Node)
+            → node n ≡ node_is self.numbered.node → s < table.states → RowsOf table node (suc n) rows.now
+            → Lane (carried table node n s) result }
     {
-        match operator {
-            Temporal::X => row_lane(rows, self.node.first, s),
-            _ => row_lane(rows, self.number, s),
+        match self.operator {
+            Temporal::X => row_lane(rows, self.numbered.node.first, s),
+            _ => row_lane(rows, self.numbered.number, s),
         }
     }
 
     // Its words in state s.
-    fn words(self, operator: Temporal, s: usize, rows: &[u16; 2048]) -> Words
-        requires operator_is { self.node.operator ≡ Operator.Temporal operator }
-        requires within { s < 64 }
-        ensures { (table : Meaning.Table) (node : ℕ → Meaning.Node) → node self.number ≡ node_is self.node
-            → s < table.states → Rows table node (suc self.number) rows.now
-            → NodeLanes table node self.number s result.need result.carry result.met result.fails }
+    fn words(self, s: usize, rows: &Rows) -> Words
+        requires { s < 64 }
+        ensures { let n = self.numbered.number in (table : Meaning.Table) (node : ℕ → Meaning.Node)
+            → node n ≡ node_is self.numbered.node → s < table.states → RowsOf table node (suc n) rows.now
+            → NodeLanes table node n s result.need result.carry result.met result.fails }
     {
-        let (a, b) = self.operand_lanes(s, rows);
-        let at_once = operator.now_word(a, b, ONES);
-        let stay = operator.stay_word(a, b, ONES);
+        let (a, b) = self.numbered.operand_lanes(s, rows);
+        let at_once = self.operator.now_word(a, b, ONES);
+        let stay = self.operator.stay_word(a, b, ONES);
         let need = stay & !at_once;
-        let v = row_lane(rows, self.number, s);
+        let v = row_lane(rows, self.numbered.number, s);
         Words {
             need,
-            carry: self.carry_lane(operator, s, rows),
-            met: met_lane(operator, v, at_once, stay),
+            carry: self.carry_lane(s, rows),
+            met: met_lane(self.operator, v, at_once, stay),
             fails: !need & (v ^ at_once),
         }
     }
 
     // Adds its lanes in each of the states.
-    fn add_lanes(
-        self,
-        operator: Temporal,
-        states: usize,
-        before: Counts,
-        rows: &[u16; 2048],
-        lanes: &mut [u16; 1024],
-    )
-        requires operator_is { self.node.operator ≡ Operator.Temporal operator }
+    fn add_lanes(self, states: usize, before: Counts, rows: &Rows, lanes: &mut Lanes)
         requires few_states { states ≤ 64 }
         requires few { before.temporals < 4 }
-        ensures { (table : Meaning.Table) (node : ℕ → Meaning.Node) → node self.number ≡ node_is self.node
-            → table.states ≡ states → Counted node self.number before.temporals before.promises
-            → Rows table node (suc self.number) rows.now
-            → Lanes table node self.number lanes.old
-            → Lanes table node (suc self.number) lanes.new }
+        ensures { let n = self.numbered.number in (table : Meaning.Table) (node : ℕ → Meaning.Node)
+            → node n ≡ node_is self.numbered.node → table.states ≡ states
+            → Counted node n before.temporals before.promises → RowsOf table node (suc n) rows.now
+            → LanesOf table node n lanes.old → LanesOf table node (suc n) lanes.new }
     {
         for s in 0..states {
-            self.words(operator, s, rows).store(before, s, lanes);
+            self.words(s, rows).store(before, s, lanes);
         }
     }
 }
@@ -271,8 +282,8 @@ fn add_node(
     nodes: &[u8],
     n: usize,
     before: Counts,
-    rows: &mut [u16; 2048],
-    lanes: &mut [u16; 1024],
+    rows: &mut Rows,
+    lanes: &mut Lanes,
 ) -> Counts
     requires filling { Filling states.now nodes.now (suc n) }
     requires counted { Counted (node_of nodes.now) n before.temporals before.promises }
@@ -285,20 +296,14 @@ fn add_node(
     match numbered.node.operator {
         Operator::Plain(_) => before,
         Operator::Temporal(operator) => {
-            numbered.add_lanes(operator, states.len() / 3, before, rows, lanes);
+            TemporalNode { numbered, operator }.add_lanes(states.len() / 3, before, rows, lanes);
             before.with(operator)
         }
     }
 }
 
 // The rows of nodes 0 to n-1: those of nodes 0 to n-2 with node n-1's added; and the lanes of the temporal ones.
-pub fn fill(
-    states: &[u8],
-    nodes: &[u8],
-    n: usize,
-    rows: &mut [u16; 2048],
-    lanes: &mut [u16; 1024],
-) -> Counts
+pub fn fill(states: &[u8], nodes: &[u8], n: usize, rows: &mut Rows, lanes: &mut Lanes) -> Counts
     requires filling { Filling states.now nodes.now n }
     requires blank_rows { Blank 2048 rows.old }
     requires blank_lanes { Blank 1024 lanes.old }

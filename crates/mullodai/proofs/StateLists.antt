@@ -1,17 +1,19 @@
 -- The state list while it is filled, and what is answered of it. No code.
 --     mid states xs s      the first s records of field 02's value, and then xs from s on
 --     mid_next             with record s stored at s, it is the next one
+--     mid_all              with as many records as xs has, it is those records
 -- Assumes nothing.
 use Rattle.std.specs.Prelude.{Ok, Err}
 use Prim.Native.Nat.{ℕ, zero, suc, ◌+◌, ◌≤◌, ◌<◌}
 use mathlib.Core.Path.{◌≡◌, refl, sym, ap, ◌∙◌}
-use mathlib.Core.List.{List, [], ◌∷◌, ◌++◌, append_assoc}
+use mathlib.Core.List.{List, [], ◌∷◌, ◌++◌, append_assoc, append-nil}
 use native.Mathlib.Numerals.{add-one}
 use native.Mathlib.Omega.{arith}
 use lib.Dec.{lit<}
 use lib.ListN.{length, set, drop, length-append, length-drop}
 use lib.Seq.{drop-cons, set_at}
 use borrow.Author.Tests.{lt-ltb, le-ltb}
+use Rattle.std.proofs.lemmas.List.{drop_all}
 use Rattle.reading.specs.Parts.{Parts}
 use Rattle.reading.specs.Refusals.{parts_of, case_of}
 use Rattle.reading.specs.Answers.{number_of, record_of}
@@ -49,6 +51,9 @@ module _ (states : List ℕ) where
       ap (λ (l : List StateRecord). set (records_to states s ++ l) s (record_of states s)) (drop-cons xs s (record_of states s) h)
       ∙ set_at (records_to states s) _ (drop (suc s) xs) (record_of states s) s (length_records s)
       ∙ sym (append_assoc (records_to states s) (record_of states s ∷ []) (drop (suc s) xs))
+
+  pub mid_all : (xs : List StateRecord) (s : ℕ) → length xs ≡ s → mid states xs s ≡ records_to states s
+  mid_all xs s h = rw (drop_all s xs (omega arith)) (append-nil (records_to states s))
 
 -- no refusal has the number 0
 pub refused_positive : (r : CaseRefusal) → 0 < number_of r

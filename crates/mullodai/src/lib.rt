@@ -9,7 +9,8 @@ use judge::{Refusal, Verdict};
 use reading::{StateRecord, StateRefusal};
 use search::{Lasso, SearchRefusal};
 
-// One state of a case: the number of the table, 0 on success; the place; and the record, all 0 on a refusal.
+// One state of a case: the number of the table, 0 on success; the place; and the record, all 0 on a refusal. A number with a record
+// beside it, as `include/mullodai.h` has it for C; so has `Answer`.
 #[repr(C)]
 #[derive(Clone, Copy)]
 pub struct StateAnswer {
@@ -18,18 +19,19 @@ pub struct StateAnswer {
     pub state: StateRecord,
 }
 
-// What reading one state gave.
+// What reading one state gave. (By hand, as the others below: no derive writes them, nor the `from_gives` that the entries' promises rest
+// on. `as`: std has no From between usize and u64.)
 impl From<Result<StateRecord, StateRefusal>> for StateAnswer {
     ghost from_gives = { λ read answer. answer ≡ state_told read };
 
-    fn from(read: Result<StateRecord, StateRefusal>) -> StateAnswer {
+    fn from(read: Result<StateRecord, StateRefusal>) -> Self {
         match read {
-            Ok(state) => StateAnswer {
+            Ok(state) => Self {
                 number: 0,
                 place: 0,
                 state,
             },
-            Err(refusal) => StateAnswer {
+            Err(refusal) => Self {
                 number: refusal.number() as u64,
                 place: refusal.place() as u64,
                 state: StateRecord {
@@ -54,10 +56,10 @@ pub struct Answer {
 
 impl Answer {
     // An answer with no run.
-    fn at(number: usize, place: usize) -> Answer
+    fn at(number: usize, place: usize) -> Self
         ensures { result ≡ answer_at number place }
     {
-        Answer {
+        Self {
             number: number as u64,
             place: place as u64,
             stem: 0,
@@ -70,10 +72,10 @@ impl Answer {
 impl From<Result<usize, StateRefusal>> for Answer {
     ghost from_gives = { λ filled answer. answer ≡ filled_told filled };
 
-    fn from(filled: Result<usize, StateRefusal>) -> Answer {
+    fn from(filled: Result<usize, StateRefusal>) -> Self {
         match filled {
-            Ok(records) => Answer::at(0, records),
-            Err(refusal) => Answer::at(refusal.number(), refusal.place()),
+            Ok(records) => Self::at(0, records),
+            Err(refusal) => Self::at(refusal.number(), refusal.place()),
         }
     }
 }
@@ -82,10 +84,10 @@ impl From<Result<usize, StateRefusal>> for Answer {
 impl From<Result<Verdict, Refusal>> for Answer {
     ghost from_gives = { λ judged answer. answer ≡ judge_answer judged };
 
-    fn from(judged: Result<Verdict, Refusal>) -> Answer {
+    fn from(judged: Result<Verdict, Refusal>) -> Self {
         match judged {
-            Ok(verdict) => Answer::at(verdict.number(), 0),
-            Err(refusal) => Answer::at(refusal.number(), refusal.place()),
+            Ok(verdict) => Self::at(verdict.number(), 0),
+            Err(refusal) => Self::at(refusal.number(), refusal.place()),
         }
     }
 }
@@ -94,16 +96,16 @@ impl From<Result<Verdict, Refusal>> for Answer {
 impl From<Result<Option<Lasso>, SearchRefusal>> for Answer {
     ghost from_gives = { λ found answer. answer ≡ search_answer found };
 
-    fn from(found: Result<Option<Lasso>, SearchRefusal>) -> Answer {
+    fn from(found: Result<Option<Lasso>, SearchRefusal>) -> Self {
         match found {
-            Ok(None) => Answer::at(0, 0),
-            Ok(Some(Lasso { stem, repeat })) => Answer {
+            Ok(None) => Self::at(0, 0),
+            Ok(Some(Lasso { stem, repeat })) => Self {
                 number: 1,
                 place: 0,
                 stem: stem as u64,
                 repeat: repeat as u64,
             },
-            Err(refusal) => Answer::at(refusal.number(), refusal.place()),
+            Err(refusal) => Self::at(refusal.number(), refusal.place()),
         }
     }
 }
@@ -133,8 +135,9 @@ fn fill(bytes: &[u8], list: &mut [StateRecord]) -> Result<usize, StateRefusal>
     if list.len() < states {
         return Err(StateRefusal::NoState(states));
     }
-    for s in 0..states {
-        list[s] = reading::record_at(case.states(), s);
+    let state_list = case.states();
+    for (s, record) in list[..states].iter_mut().enumerate() {
+        *record = reading::record_at(state_list, s);
     }
     Ok(states)
 }

@@ -5,8 +5,8 @@ use mathlib.Core.Path.{◌≡◌, refl}
 use mathlib.Core.List.{List}
 use native.Mathlib.Omega.{arith}
 use borrow.Author.Tests.{lt-ltb, le-ltb}
-use Rattle.reading.specs.Parts.{Parts, edge_count, node_count, temporals, eventualities}
-use Rattle.reading.specs.Refusals.{parts_of, parts_refusal, refusal, shape_of, read_as, case_of}
+use Rattle.reading.specs.Parts.{Parts}
+use Rattle.reading.specs.Refusals.{parts_of, fields_refusal, parts_refusal, refusal, shape_of, read_as, case_of}
 use Rattle.reading.specs.Answers.{record_of, state_of}
 use Rattle.reading.specs.declared.CaseRefusal.{CaseRefusal}
 use Rattle.reading.specs.Refusals.{Check}
@@ -14,23 +14,15 @@ use Rattle.reading.specs.declared.Shape.{Shape}
 use Rattle.reading.specs.declared.StateRefusal.{StateRefusal}
 use Rattle.reading.proofs.Known.{known}
 
-module _ (p q : Parts) (same : p ≡ q) where
-  pub read_refused : (r : CaseRefusal) → parts_refusal p ≡ Err r → Err r ≡ read_as (parts_refusal q) (shape_of q)
-  read_refused r e = simp (← same, e)
+-- once the fields are right, what the parts give is the answer
+module _ (bytes : List ℕ) (passed : fields_refusal bytes ≡ Ok tt) (p : Parts) (same : p ≡ parts_of bytes) where
+  pub read_refused : (r : CaseRefusal) → parts_refusal p ≡ Err r → case_of bytes ≡ Err r
+  unfolding case_of refusal
+  read_refused r e = simp (passed, ← same, e)
 
-  pub read_passed : (t e : ℕ) → t ≡ temporals p → e ≡ eventualities p → parts_refusal p ≡ Ok tt
-      → Ok
-      (record {
-        states = p.states;
-        atoms = p.atoms;
-        edges = edge_count p.edge_list;
-        nodes = node_count p.node_list;
-        temporals = t;
-        eventualities = e;
-      })
-      ≡ read_as (parts_refusal q) (shape_of q)
-  unfolding shape_of
-  read_passed t e ts es h = simp (← same, h, ts, es)
+  pub read_passed : (shape : Shape) → shape ≡ shape_of p → parts_refusal p ≡ Ok tt → case_of bytes ≡ Ok shape
+  unfolding case_of refusal
+  read_passed shape is e = simp (passed, ← same, e, is)
 
 -- a case that is refused is refused as the table says
 pub case_refused : (bytes : List ℕ) (r : CaseRefusal) → case_of bytes ≡ Err r → refusal bytes ≡ Err r

@@ -1,5 +1,4 @@
--- Where the parts lie: each is the bytes between two offsets, and in an admitted case the offsets are sums of the shape's
--- numbers. Assumes nothing.
+-- Where the parts lie: each is the bytes between two offsets. Assumes nothing.
 use Rattle.std.specs.Prelude.{Ok}
 use Prim.Native.Nat.{ℕ, ◌+◌, ◌*◌, ◌-◌, ◌≤◌}
 use mathlib.Core.Path.{◌≡◌, refl, sym, ap₂, ◌∙◌}
@@ -7,10 +6,8 @@ use mathlib.Core.List.{List}
 use native.Mathlib.Omega.{arith}
 use lib.ListN.{length, get_or, take, drop}
 use Rattle.reading.specs.Parts.{Parts}
-use Rattle.reading.specs.Refusals.{length_at, at03, at04, parts_of, fields_refusal, case_of}
-use Rattle.reading.specs.declared.Shape.{Shape}
+use Rattle.reading.specs.Refusals.{length_at, at03, at04, parts_of, fields_refusal}
 use Rattle.reading.proofs.Fields.{fields_passed}
-use Rattle.reading.proofs.Known.{sizes, passed_fields, known}
 
 module _ (bytes : List ℕ) where
   between : (a e a' n : ℕ) → a ≡ a' → e ≡ a + n → take (e - a) (drop a bytes) ≡ take n (drop a' bytes)
@@ -30,12 +27,9 @@ module _ (bytes : List ℕ) where
 
 -- the offsets of a case whose fields are right
 pub record Offsets (bytes : List ℕ) : Type 0 where
-  pub few_states : get_or bytes 3 0 ≤ 64
   pub few_atoms : get_or bytes 4 0 ≤ 16
   pub states_end : 11 + 3 * get_or bytes 3 0 ≤ length bytes
-  pub edges_few : length_at bytes (at03 bytes) ≤ 1024
   pub edges_end : at04 bytes ≡ 11 + 3 * get_or bytes 3 0 + length_at bytes (at03 bytes)
-  pub nodes_few : length_at bytes (at04 bytes) ≤ 96
   pub nodes_end : length bytes ≡ at04 bytes + 3 + length_at bytes (at04 bytes)
 
 at04_is : (bytes : List ℕ) → at04 bytes ≡ 11 + 3 * get_or bytes 3 0 + length_at bytes (at03 bytes)
@@ -46,21 +40,11 @@ pub offsets : (bytes : List ℕ) → fields_refusal bytes ≡ Ok tt → Offsets 
 offsets bytes e =
     let f = fields_passed bytes e in
     record {
-      few_states = f.range.few_states;
       few_atoms = f.range.few_atoms;
       states_end = omega (arith, f.third.head);
-      edges_few = f.third.size.below;
       edges_end = at04_is bytes;
-      nodes_few = f.fourth.size.below;
       nodes_end = omega (arith, f.fourth.value, f.ends);
     }
-
--- the same in the shape's numbers, once the case is admitted
-pub record Spans (bytes : List ℕ) (shape : Shape) : Type 0 where
-  pub states_is : shape.states ≡ get_or bytes 3 0
-  pub edges_are : 2 * shape.edges ≡ length_at bytes (at03 bytes)
-  pub nodes_are : 3 * shape.nodes ≡ length_at bytes (at04 bytes)
-  pub at : Offsets bytes
 
 first_is : (bytes : List ℕ) → (parts_of bytes).states ≡ get_or bytes 3 0
 unfolding parts_of
@@ -70,38 +54,7 @@ second_is : (bytes : List ℕ) → (parts_of bytes).atoms ≡ get_or bytes 4 0
 unfolding parts_of
 second_is bytes = refl
 
-pub spans : (bytes : List ℕ) (shape : Shape) → case_of bytes ≡ Ok shape → Spans bytes shape
-spans bytes shape e =
-    let k = known bytes shape e in
-    let p = passed_fields bytes k.passed in
-    let z = sizes bytes (fields_passed bytes p) in
-    record {
-      states_is = k.states_is ∙ first_is bytes;
-      edges_are = omega (arith, k.edges_is, k.facts.edge_bytes, z.edge_size);
-      nodes_are = omega (arith, k.nodes_is, k.facts.node_bytes, z.node_size);
-      at = offsets bytes p;
-    }
-
-module _ (bytes : List ℕ) (shape : Shape) (s : Spans bytes shape) where
-  pub states_lie : take (8 + 3 * shape.states - 8) (drop 8 bytes) ≡ (parts_of bytes).state_list
-  states_lie = state_part bytes (8 + 3 * shape.states) (omega (arith, s.states_is))
-
-  pub edges_lie : take (11 + 3 * shape.states + 2 * shape.edges - (11 + 3 * shape.states)) (drop (11 + 3 * shape.states) bytes)
-      ≡ (parts_of bytes).edge_list
-  edges_lie =
-      edge_part bytes (11 + 3 * shape.states) (11 + 3 * shape.states + 2 * shape.edges)
-      (omega (arith, s.states_is))
-      (omega (arith, s.edges_are))
-
-  pub nodes_lie : take (14 + 3 * shape.states + 2 * shape.edges + 3 * shape.nodes - (14 + 3 * shape.states + 2 * shape.edges))
-      (drop (14 + 3 * shape.states + 2 * shape.edges) bytes)
-      ≡ (parts_of bytes).node_list
-  nodes_lie =
-      node_part bytes (14 + 3 * shape.states + 2 * shape.edges) (14 + 3 * shape.states + 2 * shape.edges + 3 * shape.nodes)
-      (omega (arith, s.states_is, s.edges_are, s.at.edges_end))
-      (omega (arith, s.nodes_are))
-
--- the parts as `admit` takes them, with S, A and the length of field 03 read from the bytes
+-- the parts as they are taken, with S, A and the length of field 03 read from the bytes
 pub parts_taken : (bytes : List ℕ) → Offsets bytes → (s a l : ℕ) → s ≡ get_or bytes 3 0 → a ≡ get_or bytes 4 0 → l ≡ length_at bytes (at03 bytes)
     → ◌≡◌ {A = Parts}
     (record {

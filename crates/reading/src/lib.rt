@@ -1,15 +1,15 @@
-// A case is read: refused exactly as the table says, or admitted with its sizes. Above that, what the other layers ask of an
-// admitted case. Walks and accessors take a part as a slice.
+// A case is read: refused exactly as the table says, or admitted, as a value with its sizes. Labels, edges and nodes are read from its
+// parts, which are slices.
 #![tactic(auto)]
 
 ghost use Rattle.std.specs.Prelude.{◌≡◌, ◌+◌, ◌*◌, ◌<◌, ◌/◌, length, Result, Ok, Err, IfOk, IfErr};
-ghost use Rattle.reading.specs.Refusals.{fields_refusal, parts_refusal, parts_of, shape_of, read_as, case_of};
+ghost use Rattle.reading.specs.Refusals.{case_of};
 ghost use Rattle.reading.specs.Answers.{number_of, place_of, record_of, state_of, state_number, state_place};
 
 pub mod parts;
 pub mod refuse;
 
-use parts::Case;
+use parts::{Case, Parts};
 
 // A refusal, one variant for each row 10 to 32, with the place that the row gives.
 #[derive(Clone, Copy, PartialEq, Eq)]
@@ -39,7 +39,7 @@ pub struct Shape {
     pub eventualities: usize,
 }
 
-// A state's label and its initial mark, 0 or 1.
+// A state's label and its initial mark, 0 or 1. That the mark is a byte, and the layout, are C's.
 #[repr(C)]
 #[derive(Clone, Copy)]
 pub struct StateRecord {
@@ -54,6 +54,8 @@ pub enum StateRefusal {
     NoState(usize),
 }
 
+// No trait has `number` and `place`, and they are by hand: the definitions that promises go by are one for each enum, with a row for each
+// variant.
 impl CaseRefusal {
     // The row of a refusal.
     pub fn number(self) -> usize
@@ -118,49 +120,29 @@ impl StateRefusal {
     }
 }
 
+// By hand: a derive writes no `from_gives`, which says what a `?` made.
 impl From<CaseRefusal> for StateRefusal {
     ghost use Rattle.reading.specs.declared.StateRefusal.TheVariants.{Case as refused};
 
     ghost from_gives = { λ r e. e ≡ refused r };
 
-    fn from(r: CaseRefusal) -> StateRefusal {
-        StateRefusal::Case(r)
+    fn from(r: CaseRefusal) -> Self {
+        Self::Case(r)
     }
 }
 
 // Reads a case: its first refusal, or the case with its sizes.
-#[tactic(auto, unfolding(crate::specs::Refusals::case_of, crate::specs::Refusals::refusal))]
+#[tactic(auto, using(crate::proofs::Read::read_refused, crate::proofs::Read::read_passed), unfolding(crate::specs::Refusals::case_of, crate::specs::Refusals::refusal))]
 pub fn admit(bytes: &[u8]) -> Result<Case, CaseRefusal>
     ensures refused { IfErr result (λ r. case_of bytes.now ≡ Err r) }
     ensures read { IfOk result (λ case. case.bytes.now ≡ bytes.now) }
 {
     refuse::check_fields(bytes)?;
-    let shape = admit_parts(bytes)?;
-    Ok(Case { bytes, shape })
-}
-
-// Rows 20 to 32 on the parts of a case whose fields are right.
-fn admit_parts(bytes: &[u8]) -> Result<Shape, CaseRefusal>
-    requires { fields_refusal bytes.now ≡ Ok tt }
-    ensures { result ≡ read_as (parts_refusal (parts_of bytes.now)) (shape_of (parts_of bytes.now)) }
-{
-    let states = parts::byte(bytes, 3);
-    let atoms = parts::byte(bytes, 4);
-    let states_end = 8 + 3 * states;
-    let edges_start = states_end + 3;
-    let edges_end = edges_start + refuse::length_at(bytes, states_end);
-    let nodes_start = edges_end + 3;
-    let state_list = &bytes[8..states_end];
-    let edge_list = &bytes[edges_start..edges_end];
-    let node_list = &bytes[nodes_start..];
-    refuse::check_parts(states, atoms, state_list, edge_list, node_list)?;
-    Ok(Shape {
-        states,
-        atoms,
-        edges: edge_list.len() / 2,
-        nodes: node_list.len() / 3,
-        temporals: parts::operators_from(node_list, 6),
-        eventualities: parts::operators_from(node_list, 7),
+    let parts = Parts::of(bytes);
+    parts.check()?;
+    Ok(Case {
+        bytes,
+        shape: parts.shape(),
     })
 }
 

@@ -2,9 +2,9 @@
 ghost use Rattle.std.specs.Prelude.{◌≡◌, ◌↔◌, ◌+◌, ◌*◌, ◌≤◌, ◌<◌, ◌/◌, ◌^◌, length, get_or, Ok, IsErr, IfOk};
 ghost use Rattle.reading.specs.Parts.{label_of, flags_of, initial_of, from_of, to_of, has_edge, node_of, operators_from};
 ghost use Rattle.reading.specs.Node.{node_is};
-ghost use Rattle.reading.specs.Refusals.{parts_of, case_of};
+ghost use Rattle.reading.specs.Refusals.{fields_refusal, parts_of, shape_of, case_of};
 
-use crate::Shape;
+use crate::{Shape, refuse};
 use rule::{Operator, UnknownOperator};
 
 // An admitted case: its bytes, and the sizes that reading them gave.
@@ -15,34 +15,89 @@ pub struct Case<'a> {
     pub ghost admitted: { case_of bytes.now ≡ Ok shape },
 }
 
+// The parts of a case whose fields are right: S, A, and the values of fields 02, 03 and 04.
+#[derive(Clone, Copy)]
+pub struct Parts<'a> {
+    pub states: usize,
+    pub atoms: usize,
+    pub state_list: &'a [u8],
+    pub edge_list: &'a [u8],
+    pub node_list: &'a [u8],
+    pub ghost few_states: { 3 * states ≤ length state_list.now },
+    pub ghost few_atoms: { atoms ≤ 16 },
+}
+
+impl<'a> Parts<'a> {
+    ghost use Rattle.reading.specs.Held.{parts_are};
+
+    // The parts, by their positions: field 01 takes five bytes, and a field's head three.
+    pub fn of(bytes: &'a [u8]) -> Self
+        requires { fields_refusal bytes.now ≡ Ok tt }
+        ensures { parts_are result ≡ parts_of bytes.now }
+    {
+        let states = byte(bytes, 3);
+        let states_end = 8 + 3 * states;
+        let edges_start = states_end + 3;
+        let edges_end = edges_start + refuse::length_at(bytes, states_end);
+        let nodes_start = edges_end + 3;
+        let state_list = &bytes[8..states_end];
+        let edge_list = &bytes[edges_start..edges_end];
+        let node_list = &bytes[nodes_start..];
+        Self {
+            states,
+            atoms: byte(bytes, 4),
+            state_list,
+            edge_list,
+            node_list,
+        }
+    }
+
+    // The sizes.
+    #[tactic(auto, unfolding(crate::specs::Refusals::shape_of))]
+    pub fn shape(&self) -> Shape
+        ensures { result ≡ shape_of (parts_are self.now) }
+    {
+        Shape {
+            states: self.states,
+            atoms: self.atoms,
+            edges: self.edge_list.len() / 2,
+            nodes: self.node_list.len() / 3,
+            temporals: operators_from(self.node_list, FIRST_TEMPORAL),
+            eventualities: operators_from(self.node_list, FIRST_EVENTUALITY),
+        }
+    }
+}
+
 impl<'a> Case<'a> {
+    ghost use Rattle.reading.specs.Held.{parts_are};
+
+    // The parts, taken again as `admit` took them.
+    #[tactic(auto, using(crate::proofs::Known::known, crate::proofs::Known::passed_fields))]
+    fn parts(&self) -> Parts<'a>
+        ensures { parts_are result ≡ parts_of self.now.bytes.now }
+    {
+        Parts::of(self.bytes)
+    }
+
     // The value of field 02.
-    #[tactic(auto, using(crate::proofs::Spans::spans, crate::proofs::Spans::states_lie))]
     pub fn states(&self) -> &'a [u8]
         ensures { result.now ≡ (parts_of self.now.bytes.now).state_list }
     {
-        let end = 8 + 3 * self.shape.states;
-        &self.bytes[8..end]
+        self.parts().state_list
     }
 
     // The value of field 03.
-    #[tactic(auto, using(crate::proofs::Spans::spans, crate::proofs::Spans::edges_lie))]
     pub fn edges(&self) -> &'a [u8]
         ensures { result.now ≡ (parts_of self.now.bytes.now).edge_list }
     {
-        let start = 11 + 3 * self.shape.states;
-        let end = start + 2 * self.shape.edges;
-        &self.bytes[start..end]
+        self.parts().edge_list
     }
 
     // The value of field 04.
-    #[tactic(auto, using(crate::proofs::Spans::spans, crate::proofs::Spans::nodes_lie))]
     pub fn nodes(&self) -> &'a [u8]
         ensures { result.now ≡ (parts_of self.now.bytes.now).node_list }
     {
-        let start = 14 + 3 * self.shape.states + 2 * self.shape.edges;
-        let end = start + 3 * self.shape.nodes;
-        &self.bytes[start..end]
+        self.parts().node_list
     }
 }
 
@@ -55,7 +110,8 @@ pub fn byte(list: &[u8], i: usize) -> usize
     usize::from(list[i])
 }
 
-// A state's label: bit j of it is atom j.
+// A state's label: bit j of it is atom j. Like those below it asks for the state's three bytes itself: a struct of the list and a
+// number within it would have to be made anew for each state.
 #[tactic(auto, unfolding(crate::specs::Parts::label_of))]
 pub fn label(states: &[u8], s: usize) -> u16
     requires { 3 * s + 2 < length states.now }
@@ -123,7 +179,7 @@ pub struct Node {
     pub second: usize,
 }
 
-// Node n, unless its operator is unknown.
+// Node n, unless its operator is unknown. (Like a state's, a node's three bytes are asked for where they are read.)
 #[tactic(auto, unfolding(crate::specs::Parts::node_of))]
 pub fn read_node(nodes: &[u8], n: usize) -> Result<Node, UnknownOperator>
     requires { 3 * n + 2 < length nodes.now }
@@ -143,16 +199,18 @@ pub fn node_at(nodes: &[u8], n: usize) -> Node
     requires known { (node_of nodes.now n).operator < 12 }
     ensures { node_is result ≡ node_of nodes.now n }
 {
-    match read_node(nodes, n) {
-        Ok(node) => node,
-        Err(_) => unreachable!(),
-    }
+    read_node(nodes, n).unwrap()
 }
 
-// The highest operator's number.
+// T counts the operators 6 to 11, and E those from 7.
+pub const FIRST_TEMPORAL: usize = 6;
+
+const FIRST_EVENTUALITY: usize = 7;
+
 const LAST_OPERATOR: usize = 11;
 
-// How many nodes have operators from this number to 11: T from 6, E from 7.
+// How many nodes have operators from this number to 11. By number, since T and E are defined so: an enum read from each number
+// would be numbered again to say what was counted.
 #[tactic(auto, unfolding(crate::specs::Parts::operators_from, crate::specs::Parts::operator_from, crate::specs::Parts::node_of, crate::specs::Lowest::count))]
 pub fn operators_from(nodes: &[u8], low: usize) -> usize
     ensures { result ≡ operators_from low nodes.now }

@@ -1,11 +1,11 @@
-// The refusals, in the order of the table. A walk gives the lowest bad place, or the number of places if none is bad.
-ghost use Rattle.std.specs.Prelude.{◌≡◌, false, ◌||◌, leb, IsNone, IfSome, ◌+◌, ◌*◌, ◌≤◌, ◌<◌, ◌/◌, length};
+// The refusals, in the order of the table. Each check refuses at the lowest bad place.
+ghost use Rattle.std.specs.Prelude.{◌≡◌, false, not, ◌||◌, eqb, leb, ltb, IsNone, IfSome, ◌+◌, ◌*◌, ◌≤◌, ◌<◌, ◌/◌, ◌^◌, length};
 ghost use Rattle.rule.specs.Operator.{code};
 ghost use Rattle.reading.specs.Lowest.{lowest, any};
-ghost use Rattle.reading.specs.Refusals.{in_steps, length_at, out_of_range, field_refusal, last_refusal, fields_refusal, bad_state, bad_end, above, not_above, starts_none, unknown, first_limit, second_limit, wrong_byte, states_refusal, edges_refusal, dead_end_refusal, nodes_refusal, temporals_refusal, parts_refusal};
+ghost use Rattle.reading.specs.Refusals.{in_steps, length_at, out_of_range, field_refusal, last_refusal, fields_refusal, not_above, starts_none, first_limit, second_limit, states_refusal, edges_refusal, dead_end_refusal, nodes_refusal, temporals_refusal, parts_refusal};
 
-use crate::parts::Node;
-use crate::{CaseRefusal, parts};
+use crate::parts::{Edge, FIRST_TEMPORAL, Node, Parts};
+use crate::{CaseRefusal, StateRecord, parts, record_at};
 use rule::{Operator, Plain};
 
 const MOST_STATES: usize = 64;
@@ -40,7 +40,7 @@ struct Lengths {
 impl Lengths {
     // Whether a length is one of them.
     #[tactic(auto, unfolding(crate::specs::Refusals::in_steps))]
-    fn take(self, n: usize) -> bool
+    fn allow(self, n: usize) -> bool
         ensures { result ≡ in_steps self.step self.least self.most n }
     {
         n % self.step == 0 && self.least <= n && n <= self.most
@@ -56,9 +56,10 @@ fn check_field(bytes: &[u8], at: usize, tag: usize, lengths: Lengths) -> Result<
     if bytes.len() < at + 3 {
         return Err(CaseRefusal::Short(at));
     }
+    // Both tests are made before either is asked, so that an edit can ask them in the other order (must-fail/length_before_tag).
     let tag_right = parts::byte(bytes, at) == tag;
     let size = length_at(bytes, at);
-    let size_right = lengths.take(size);
+    let size_right = lengths.allow(size);
     if !tag_right {
         return Err(CaseRefusal::Tag(at));
     }
@@ -146,101 +147,27 @@ fn check_last_field(bytes: &[u8], at: usize) -> Result<(), CaseRefusal>
 }
 
 // 20 of one state.
-#[tactic(auto, unfolding(crate::specs::Refusals::bad_state))]
-fn bad_state(list: &[u8], atoms: usize, s: usize) -> bool
-    requires { (3 * s + 2 < length list.now) × (atoms ≤ 16) }
-    ensures { result ≡ bad_state atoms list.now s }
+fn bad_state(state: StateRecord, atoms: usize) -> bool
+    requires { atoms ≤ 16 }
+    ensures { result ≡ (not (eqb (state.label / 2 ^ atoms) 0) || ltb 1 state.initial) }
 {
-    u32::from(parts::label(list, s)) >> atoms != 0 || 1 < parts::flags(list, s)
-}
-
-// 20.
-fn check_states(list: &[u8], states: usize, atoms: usize) -> Result<(), CaseRefusal>
-    requires few_states { 3 * states ≤ length list.now }
-    requires few_atoms { atoms ≤ 16 }
-    ensures { result ≡ states_refusal states atoms list.now }
-{
-    for s in 0..states {
-        if bad_state(list, atoms, s) {
-            return Err(CaseRefusal::Bits(s));
-        }
-    }
-    Ok(())
+    u32::from(state.label) >> atoms != 0 || 1 < state.initial
 }
 
 // 21 of one edge.
-#[tactic(auto, unfolding(crate::specs::Refusals::bad_end))]
-fn bad_end(list: &[u8], states: usize, e: usize) -> bool
-    requires { 2 * e + 1 < length list.now }
-    ensures { result ≡ bad_end states list.now e }
+fn bad_end(edge: Edge, states: usize) -> bool
+    ensures { result ≡ (leb states edge.from || leb states edge.to) }
 {
-    let edge = parts::edge_at(list, e);
     states <= edge.from || states <= edge.to
 }
 
-// Whether edge e is above edge d, by from and then by to.
-#[tactic(auto, unfolding(crate::specs::Refusals::above))]
-fn is_above(list: &[u8], e: usize, d: usize) -> bool
-    requires upper { 2 * e + 1 < length list.now }
-    requires lower { 2 * d + 1 < length list.now }
-    ensures { result ≡ above list.now e d }
-{
-    parts::edge_at(list, d) < parts::edge_at(list, e)
-}
-
 // 22 of one edge.
-#[tactic(auto, unfolding(crate::specs::Refusals::not_above))]
+#[tactic(auto, unfolding(crate::specs::Refusals::not_above, crate::specs::Refusals::above))]
 fn not_above(list: &[u8], e: usize) -> bool
     requires { 2 * e + 1 < length list.now }
     ensures { result ≡ not_above list.now e }
 {
-    0 < e && !is_above(list, e, e - 1)
-}
-
-// 21 and 22, edge by edge.
-fn check_edges(list: &[u8], states: usize) -> Result<(), CaseRefusal>
-    ensures { result ≡ edges_refusal states list.now }
-{
-    for e in 0..list.len() / 2 {
-        if bad_end(list, states, e) {
-            return Err(CaseRefusal::End(e));
-        }
-        if not_above(list, e) {
-            return Err(CaseRefusal::Order(e));
-        }
-    }
-    Ok(())
-}
-
-// The lowest state that starts no edge, if there is one. The label leaves both loops: at the first edge that the state starts, for
-// the next state; at a dead end, for good.
-#[tactic(auto, using(crate::proofs::Rows::starts_one, crate::proofs::Rows::starts_none_lem, crate::proofs::Lowest::lowest_is, crate::proofs::Lowest::any_none))]
-fn lowest_dead_end(list: &[u8], states: usize) -> Option<usize>
-    ensures none { IsNone result → any (starts_none list.now) states ≡ false }
-    ensures lowest { IfSome result (λ s. (s ≡ lowest (starts_none list.now) states) × (s < states)) }
-{
-    let mut found = None;
-    'states: for s in 0..states {
-        for e in 0..list.len() / 2 {
-            if parts::edge_at(list, e).from == s {
-                continue 'states;
-            }
-        }
-        found = Some(s);
-        break 'states;
-    }
-    found
-}
-
-// 23.
-#[tactic(auto, unfolding(crate::specs::Refusals::dead_end_refusal, crate::specs::Lowest::any))]
-fn check_dead_ends(list: &[u8], states: usize) -> Result<(), CaseRefusal>
-    ensures { result ≡ dead_end_refusal states list.now }
-{
-    match lowest_dead_end(list, states) {
-        Some(s) => Err(CaseRefusal::DeadEnd(s)),
-        None => Ok(()),
-    }
+    0 < e && parts::edge_at(list, e) <= parts::edge_at(list, e - 1)
 }
 
 // What the first byte of node n must be below: A for an atom, the node's own number for an operand, 1 where it is unused.
@@ -272,56 +199,107 @@ fn wrong_byte(node: Node, atoms: usize, n: usize) -> bool
         || second_limit(node.operator, n) <= node.second
 }
 
-// 30 and 31, node by node.
-#[tactic(auto, unfolding(crate::specs::Refusals::unknown, crate::specs::Refusals::wrong_byte))]
-fn check_nodes(list: &[u8], atoms: usize) -> Result<(), CaseRefusal>
-    ensures { result ≡ nodes_refusal atoms list.now }
-{
-    for n in 0..list.len() / 3 {
-        let Ok(node) = parts::read_node(list, n) else {
-            return Err(CaseRefusal::Operator(n));
-        };
-        if wrong_byte(node, atoms, n) {
-            return Err(CaseRefusal::Operand(n));
+impl Parts<'_> {
+    ghost use Rattle.reading.specs.Held.{parts_are};
+
+    // 20.
+    #[tactic(auto, unfolding(crate::specs::Refusals::bad_state, crate::specs::Answers::record_of))]
+    fn check_states(&self) -> Result<(), CaseRefusal>
+        ensures { result ≡ states_refusal self.now.states self.now.atoms self.now.state_list.now }
+    {
+        for s in 0..self.states {
+            if bad_state(record_at(self.state_list, s), self.atoms) {
+                return Err(CaseRefusal::Bits(s));
+            }
+        }
+        Ok(())
+    }
+
+    // 21 and 22, edge by edge.
+    #[tactic(auto, unfolding(crate::specs::Refusals::bad_end))]
+    fn check_edges(&self) -> Result<(), CaseRefusal>
+        ensures { result ≡ edges_refusal self.now.states self.now.edge_list.now }
+    {
+        for e in 0..self.edge_list.len() / 2 {
+            if bad_end(parts::edge_at(self.edge_list, e), self.states) {
+                return Err(CaseRefusal::End(e));
+            }
+            if not_above(self.edge_list, e) {
+                return Err(CaseRefusal::Order(e));
+            }
+        }
+        Ok(())
+    }
+
+    // The lowest state that starts no edge, if there is one: two loops left by a label, the form that docs/DECISIONS.md keeps. At
+    // the first edge that the state starts it goes on to the next state, and at a dead end it ends both.
+    #[tactic(auto, using(crate::proofs::Rows::starts_one, crate::proofs::Rows::starts_none_lem, crate::proofs::Lowest::lowest_is, crate::proofs::Lowest::any_none))]
+    fn lowest_dead_end(&self) -> Option<usize>
+        ensures none { IsNone result → any (starts_none self.now.edge_list.now) self.now.states ≡ false }
+        ensures lowest { IfSome result (λ s. s ≡ lowest (starts_none self.now.edge_list.now) self.now.states) }
+        ensures within { IfSome result (λ s. s < self.now.states) }
+    {
+        let mut found = None;
+        'states: for s in 0..self.states {
+            for e in 0..self.edge_list.len() / 2 {
+                if parts::edge_at(self.edge_list, e).from == s {
+                    continue 'states;
+                }
+            }
+            found = Some(s);
+            break 'states;
+        }
+        found
+    }
+
+    // 23.
+    #[tactic(auto, unfolding(crate::specs::Refusals::dead_end_refusal, crate::specs::Lowest::any))]
+    fn check_dead_ends(&self) -> Result<(), CaseRefusal>
+        ensures { result ≡ dead_end_refusal self.now.states self.now.edge_list.now }
+    {
+        match self.lowest_dead_end() {
+            Some(s) => Err(CaseRefusal::DeadEnd(s)),
+            None => Ok(()),
         }
     }
-    Ok(())
-}
 
-// 32.
-#[tactic(auto, unfolding(crate::specs::Refusals::temporals_refusal))]
-fn check_temporals(list: &[u8]) -> Result<(), CaseRefusal>
-    ensures { result ≡ temporals_refusal list.now }
-{
-    let temporals = parts::operators_from(list, 6);
-    if MOST_TEMPORALS < temporals {
-        return Err(CaseRefusal::Temporals(temporals));
+    // 30 and 31, node by node.
+    #[tactic(auto, unfolding(crate::specs::Refusals::unknown, crate::specs::Refusals::wrong_byte))]
+    fn check_nodes(&self) -> Result<(), CaseRefusal>
+        ensures { result ≡ nodes_refusal self.now.atoms self.now.node_list.now }
+    {
+        for n in 0..self.node_list.len() / 3 {
+            let Ok(node) = parts::read_node(self.node_list, n) else {
+                return Err(CaseRefusal::Operator(n));
+            };
+            if wrong_byte(node, self.atoms, n) {
+                return Err(CaseRefusal::Operand(n));
+            }
+        }
+        Ok(())
     }
-    Ok(())
-}
 
-// Rows 20 to 32.
-#[tactic(auto, unfolding(crate::specs::Refusals::parts_refusal))]
-pub fn check_parts(
-    states: usize,
-    atoms: usize,
-    state_list: &[u8],
-    edge_list: &[u8],
-    node_list: &[u8],
-) -> Result<(), CaseRefusal>
-    requires few_states { 3 * states ≤ length state_list.now }
-    requires few_atoms { atoms ≤ 16 }
-    ensures { result ≡ parts_refusal (record {
-      states = states;
-      atoms = atoms;
-      state_list = state_list.now;
-      edge_list = edge_list.now;
-      node_list = node_list.now;
-    }) }
-{
-    check_states(state_list, states, atoms)?;
-    check_edges(edge_list, states)?;
-    check_dead_ends(edge_list, states)?;
-    check_nodes(node_list, atoms)?;
-    check_temporals(node_list)
+    // 32.
+    #[tactic(auto, unfolding(crate::specs::Refusals::temporals_refusal))]
+    fn check_temporals(&self) -> Result<(), CaseRefusal>
+        ensures { result ≡ temporals_refusal self.now.node_list.now }
+    {
+        let temporals = parts::operators_from(self.node_list, FIRST_TEMPORAL);
+        if MOST_TEMPORALS < temporals {
+            return Err(CaseRefusal::Temporals(temporals));
+        }
+        Ok(())
+    }
+
+    // Rows 20 to 32.
+    #[tactic(auto, unfolding(crate::specs::Refusals::parts_refusal))]
+    pub fn check(&self) -> Result<(), CaseRefusal>
+        ensures { result ≡ parts_refusal (parts_are self.now) }
+    {
+        self.check_states()?;
+        self.check_edges()?;
+        self.check_dead_ends()?;
+        self.check_nodes()?;
+        self.check_temporals()
+    }
 }

@@ -2,10 +2,19 @@
 // search both use these, so that the tables of `meaning` are written once in code.
 #![tactic(auto)]
 
-ghost use Rattle.std.specs.Prelude.{◌≡◌, ◌≤◌};
+ghost use Rattle.std.specs.Prelude.{◌≡◌, ◌≤◌, ◌<◌};
 ghost use Rattle.bits.specs.Bits.{bit};
 ghost use Rattle.meaning.specs.Laws.{plain, now, stay, greatest, operands};
 ghost use Rattle.bits.proofs.Word.{Word};
+
+// Whether bit j of a word of truth values is set.
+#[tactic(auto, using(bits::proofs::Bit::test_bit, bits::proofs::Bit::eqb_digit))]
+pub fn is_set(word: u32, j: usize) -> bool
+    requires { j < 32 }
+    ensures { result ≡ bit word j }
+{
+    word >> j & 1 == 1
+}
 
 // The operators that one position decides.
 #[derive(Clone, Copy, Debug, PartialEq, Eq)]
@@ -40,6 +49,7 @@ pub enum Operator {
 #[derive(Clone, Copy, Debug, PartialEq, Eq)]
 pub struct UnknownOperator(pub u8);
 
+// The operator with a number, if there is one.
 impl TryFrom<u8> for Operator {
     type Error = UnknownOperator;
 
@@ -83,6 +93,7 @@ impl Operator {
     }
 }
 
+// The operands' words and `ones` are numbers, here and below, and no struct: each arm would name its fields one by one again.
 impl Plain {
     ghost use Rattle.rule.specs.Operator.{plain_code};
 

@@ -1,6 +1,5 @@
 // Places as the stacks hold them, and their numbers: the colours are by the place's number.
 ghost use Rattle.std.specs.Prelude.{◌≡◌, leb, ◌+◌, ◌-◌, ◌*◌, ◌/◌, ◌%◌, ◌^◌, ◌≤◌, ◌<◌};
-ghost use Rattle.bits.specs.Bits.{bit};
 ghost use Rattle.workspace.proofs.Setting.{code_of, number_in};
 
 // The lane of the lowest n ones, for n up to 16.
@@ -8,16 +7,8 @@ pub fn ones(n: usize) -> u16
     requires { n ≤ 16 }
     ensures { result ≡ 2 ^ n - 1 }
 {
+    // `as`: std has no From that narrows, and the proof shows that it fits.
     ((1u32 << n) - 1) as u16
-}
-
-// Whether bit b of a lane is true.
-#[tactic(auto, using(bits::proofs::Bit::test_bit, bits::proofs::Bit::eqb_digit))]
-pub fn is_set(lane: u16, b: usize) -> bool
-    requires { b < 16 }
-    ensures { result ≡ bit lane b }
-{
-    lane >> b & 1 == 1
 }
 
 // The state of the place that a code stands for.
@@ -45,10 +36,21 @@ pub fn waiting(code: usize) -> usize
 pub fn is_marked(top: usize, w: usize) -> bool
     ensures { result ≡ leb top w }
 {
+    // Its own line, though 0 <= w: the edit marked_only_above_no_promise turns it.
     if top == 0 {
         return true;
     }
     top <= w
+}
+
+// The colour of a place, in their order: a scan asks for a colour below a limit. An entry of the lent workspace has 16 bits, so each
+// stands there as its number, and 0 is white.
+#[derive(Clone, Copy)]
+pub enum Colour {
+    White,
+    Blue,
+    Cyan,
+    Red,
 }
 
 // A place. An entry of the lent workspace has 16 bits, so the stacks hold it as one number, its code.
@@ -63,7 +65,7 @@ pub struct Place {
 }
 
 impl Place {
-    // The place that a code stands for.
+    // The place that a code stands for. No From: it asks for a bound; so neither is `code`, its inverse.
     pub(crate) fn decode(code: usize) -> Place
         requires { code < 8192 }
         ensures state { result.state ≡ code / 128 }
@@ -77,6 +79,7 @@ impl Place {
         }
     }
 
+    // The code of the place.
     pub fn code(self) -> usize
         ensures { result ≡ code_of self.state self.bits self.waiting }
     {

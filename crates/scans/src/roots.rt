@@ -3,14 +3,17 @@ ghost use Rattle.std.specs.Prelude.{◌≡◌, ◌<◌};
 ghost use Rattle.workspace.proofs.Roots.{root_at};
 ghost use Rattle.scans.specs.Cases.{RootsOfCase};
 
-use crate::places;
+use lanes::Rows;
 use reading::parts;
+use rule::is_set;
 
-// What tells the initial places: the states, the rows, of which the rule's starts at `last`, and 2 to the power T.
+// What tells the initial places: the states, the rows, of which the rule's starts at `last`, and 2 to the power T. (Sizes
+// has the last too. It stands here so that `is_initial` answers for any b by the roots alone.) That they are one case's is no ghost field,
+// for the reasons beside Setting.
 #[derive(Clone, Copy)]
 pub struct Roots<'a> {
     pub states: &'a [u8],
-    pub rows: &'a [u16; 2048],
+    pub rows: &'a Rows,
     pub last: usize,
     pub guesses: usize,
 }
@@ -26,7 +29,7 @@ impl Roots<'_> {
             return false;
         }
         let rule = self.rows[self.last + s];
-        if places::is_set(rule, b) {
+        if is_set(u32::from(rule), b) {
             return false;
         }
         parts::initial(self.states, s)

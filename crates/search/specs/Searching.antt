@@ -10,19 +10,9 @@ use Rattle.workspace.proofs.RootTurnsIn.{root_number}
 use Rattle.workspace.proofs.ViewsIn.{OuterIn, MetIn}
 use Rattle.scans.specs.Cases.{OfCase, RootsOfCase}
 use Rattle.scans.specs.declared.Setting.{Setting}
-use Rattle.graph.proofs.Machine.{white, blue, cyan, red}
-use Rattle.search.specs.declared.turns.Colour.{Colour}
-use Rattle.search.specs.declared.turns.Colour.TheVariants.{White, Blue, Cyan, Red}
 use Rattle.search.specs.declared.turns.Hit.{Hit}
 use Rattle.search.specs.declared.turns.Met.{Met}
 use Rattle.search.specs.declared.turns.Plan.{Plan}
-
--- a colour as the workspace has it
-abbrev pub shade : Colour → ℕ
-shade White = white
-shade Blue = blue
-shade Cyan = cyan
-shade Red = red
 
 -- the number of the place that a code stands for, and of the place of state s and bits b with waiting number 0
 abbrev pub place_in : Setting → ℕ → ℕ
@@ -44,4 +34,4 @@ module _ {edges lanes starts : List ℕ} {guesses ones top size : ℕ} (c : Case
 
   -- the roots below r are passed, unless a loop was met
   abbrev pub PassedTo : ℕ → List ℕ → ControlFlow Hit ⊤ → Type 0
-  PassedTo r ws result = MatchControlFlow result (λ _. OuterIn c r ws 0) (λ hit. MetIn c ws hit.outer hit.inner hit.at)
+  PassedTo r ws result = MatchControlFlow result (λ _. OuterIn c r ws 0) (λ hit. MetIn c ws hit.outer hit.met.inner hit.met.at)

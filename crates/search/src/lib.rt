@@ -11,6 +11,8 @@ ghost use Rattle.scans.specs.Cases.{OfCase};
 ghost use Rattle.search.specs.Answers.{search_number, search_place};
 ghost use Rattle.search.specs.Outcome.{Searched, Searches, Decides, HasBroken, workspace_needs, track_needs, cleared};
 
+use lanes::starts::Starts;
+use lanes::{Lanes, Rows};
 use reading::parts::Case;
 use reading::{CaseRefusal, parts};
 use scans::places::Sizes;
@@ -39,6 +41,7 @@ pub enum SearchRefusal {
     Track(usize),
 }
 
+// What is told of a refusal is by hand: the definitions that promises go by have a row for each variant.
 impl SearchRefusal {
     // The row of a refusal.
     pub fn number(self) -> usize
@@ -62,6 +65,7 @@ impl SearchRefusal {
     }
 }
 
+// A refused case is a refusal of the search. By hand: a derive writes no from_gives, which says what `?` made.
 impl From<CaseRefusal> for SearchRefusal {
     ghost use Rattle.search.specs.declared.SearchRefusal.TheVariants.{Case as refused};
 
@@ -85,6 +89,7 @@ pub fn search(
 }
 
 // Looks for one in a case that was read: refuses too little room, and clears the workspace before and after.
+#[tactic(auto, using(crate::proofs::Prepared::places_within, crate::proofs::Prepared::short_workspace, crate::proofs::Prepared::short_track, crate::proofs::Prepared::clear_zero, crate::proofs::Prepared::clear_twice, crate::proofs::Prepared::room_enough, reading::proofs::Known::known))]
 fn search_admitted(
     case: &Case,
     workspace: &mut [u16],
@@ -110,6 +115,7 @@ fn search_admitted(
 }
 
 // What the numbering of a case's places needs.
+#[tactic(auto, using(crate::proofs::Prepared::sizes_low, crate::proofs::Prepared::places_are, reading::proofs::Known::known))]
 fn sizes_of(case: &Case) -> Sizes
     ensures guesses { result.guesses ≡ 2 ^ temporals (parts_of case.now.bytes.now) }
     ensures ones { result.ones ≡ 2 ^ result.guesses - 1 }
@@ -126,8 +132,8 @@ fn sizes_of(case: &Case) -> Sizes
     }
 }
 
-// The verdict on a case, with the run in the track if it is violated. The workspace's first entries are 0 before; it is left as the
-// search left it.
+// The verdict on a case, with the run in the track if it is violated. The workspace's first entries are 0 before; what the search
+// leaves there is cleared by the caller.
 fn verdict(case: &Case, workspace: &mut [u16], track: &mut [u16]) -> Option<Lasso>
     requires room { workspace_needs (parts_of case.now.bytes.now) ≤ length workspace.old }
     requires cleared { (i : ℕ) → i < places_of (parts_of case.now.bytes.now) → get_or workspace.old i 0 ≡ 0 }
@@ -139,9 +145,9 @@ fn verdict(case: &Case, workspace: &mut [u16], track: &mut [u16]) -> Option<Lass
     let shape = case.shape;
     let states = case.states();
     let edges = case.edges();
-    let mut rows = [0u16; 2048];
-    let mut lanes = [0u16; 1024];
-    let mut starts = [0u16; 65];
+    let mut rows: Rows = [0; 2048];
+    let mut lanes: Lanes = [0; 1024];
+    let mut starts: Starts = [0; 65];
     lanes::fill(states, case.nodes(), shape.nodes, &mut rows, &mut lanes);
     lanes::starts::fill(edges, shape.states, &mut starts);
     let sizes = sizes_of(case);
@@ -167,19 +173,19 @@ fn verdict(case: &Case, workspace: &mut [u16], track: &mut [u16]) -> Option<Lass
 // Writes the run that was found, folded: the outer stack, and the inner stack above its first place; the loop starts where the place
 // met again stands.
 fn show(setting: &Setting, workspace: &[u16], hit: Hit, track: &mut [u16]) -> Lasso
-    requires met { (c : OfCase setting.now) × MetIn c workspace.now hit.outer hit.inner hit.at }
+    requires met { (c : OfCase setting.now) × MetIn c workspace.now hit.outer hit.met.inner hit.met.at }
     requires room { 2 * setting.now.sizes.places ≤ length track.old }
-    ensures { (c : OfCase setting.now) → MetIn c workspace.now hit.outer hit.inner hit.at
+    ensures { (c : OfCase setting.now) → MetIn c workspace.now hit.outer hit.met.inner hit.met.at
         → (lent : List ℕ) → HasBroken c.parts lent track.old (cleared c.parts lent) track.new result.stem result.repeat }
 {
     let places = setting.sizes.places;
-    let stem = tracks::find(workspace, places, hit.at);
+    let stem = tracks::find(workspace, places, hit.met.at);
     let found = Run {
         workspace,
         places,
         outer: hit.outer,
         stem,
-        repeat: hit.outer + hit.inner - 1 - stem,
+        repeat: hit.outer + hit.met.inner - 1 - stem,
     };
     let run = found.folded();
     run.write(track);

@@ -1,5 +1,8 @@
 // The turns of the search. In the workspace lie P entries each of: colours, outer stack, its cursors, inner stack, its cursors. It stays
-// a parameter beside the setting: in one struct behind a `&mut`, each contract would have to say that the setting is as it was.
+// a parameter beside the setting: in one struct behind a `&mut`, each contract would have to say that the setting is as it was; and
+// what stays of the workspace, `Kept`, is a clause of each. The
+// functions that take a setting are no methods of it, since it is declared in scans. An `as` stands where std has no From: from an
+// enum, and to a narrower type, where the proof shows that it fits.
 ghost use Rattle.std.specs.Prelude.{◌≡◌, ℕ, suc, ◌+◌, ◌%◌, ◌≤◌, ◌<◌, List, get_or, set, take};
 ghost use Rattle.graph.proofs.Machine.{below};
 ghost use Rattle.workspace.proofs.Views.{Kept};
@@ -7,40 +10,29 @@ ghost use Rattle.workspace.proofs.ViewsIn.{OuterIn, InnerIn, OuterOn, InnerOn};
 ghost use Rattle.workspace.proofs.TurnsIn.{Paints, Pushes, Advances, pushed, advanced};
 ghost use Rattle.workspace.proofs.InnerTurnsIn.{Leaving};
 ghost use Rattle.workspace.proofs.RootTurnsIn.{Root};
-ghost use Rattle.scans.specs.Cases.{OfCase};
-ghost use Rattle.search.specs.Searching.{shade, place_in, root_in, OneCase, UnlessMet, PassedTo};
+ghost use Rattle.scans.specs.Cases.{OfCase, shade};
+ghost use Rattle.search.specs.Searching.{place_in, root_in, OneCase, UnlessMet, PassedTo};
 
-use scans::places::Place;
+use scans::places::{Colour, Place};
 use scans::roots::Roots;
-use scans::{Candidate, Setting, places};
+use scans::{Candidate, Setting, Stack, places};
 use std::ops::ControlFlow;
-
-// The colour of a place, in their order: a scan asks for a colour below a limit. An entry of the lent workspace has 16 bits, so each
-// stands there as its number, and 0 is white.
-#[derive(Clone, Copy)]
-enum Colour {
-    White,
-    Blue,
-    Cyan,
-    Red,
-}
 
 // A place of the outer stack that was met above an inner stack this deep.
 #[derive(Clone, Copy)]
-struct Met {
-    inner: usize,
-    at: usize,
+pub struct Met {
+    pub inner: usize,
+    pub at: usize,
 }
 
 // The same, with how deep the outer stack is.
 #[derive(Clone, Copy)]
 pub struct Hit {
     pub outer: usize,
-    pub inner: usize,
-    pub at: usize,
+    pub met: Met,
 }
 
-// The colour of a place.
+// The colour of a place, as the workspace has it: that its entry is a colour's number would have to be shown at each read.
 fn colour_of(setting: &Setting, workspace: &[u16], code: usize) -> u16
     requires { Paints setting.now.sizes.guesses setting.now.sizes.top workspace.now code }
     ensures { result ≡ get_or workspace.now (place_in setting.now code) 0 }
@@ -56,32 +48,25 @@ fn paint(setting: &Setting, workspace: &mut [u16], code: usize, colour: Colour)
     workspace[setting.sizes.number_of(code)] = colour as u16;
 }
 
-// Puts a place with cursor 0 on the stack that starts at `base` and has `depth` places.
-fn push(setting: &Setting, workspace: &mut [u16], base: usize, depth: usize, code: usize)
-    requires { Pushes setting.now.sizes.places workspace.old base depth code }
-    ensures { workspace.new ≡ pushed setting.now.sizes.places base depth code workspace.old }
+// Puts a place with cursor 0 on a stack.
+fn push(setting: &Setting, workspace: &mut [u16], stack: Stack, code: usize)
+    requires { Pushes setting.now.sizes.places workspace.old stack.base stack.depth code }
+    ensures { workspace.new ≡ pushed setting.now.sizes.places stack.base stack.depth code workspace.old }
 {
-    workspace[base + depth] = code as u16;
-    workspace[base + setting.sizes.places + depth] = 0;
+    workspace[stack.base + stack.depth] = code as u16;
+    workspace[stack.base + setting.sizes.places + stack.depth] = 0;
 }
 
-// The top's cursor goes past what was found, and the place there is painted and pushed.
-fn advance(
-    setting: &Setting,
-    workspace: &mut [u16],
-    base: usize,
-    depth: usize,
-    found: Candidate,
-    colour: Colour,
-)
-    requires { Advances setting.now.sizes.guesses setting.now.sizes.top setting.now.sizes.places workspace.old base depth
+// The cursor of a stack's top goes past what was found, and the place there is painted and pushed.
+fn advance(setting: &Setting, workspace: &mut [u16], stack: Stack, found: Candidate, colour: Colour)
+    requires { Advances setting.now.sizes.guesses setting.now.sizes.top setting.now.sizes.places workspace.old stack.base stack.depth
         found.cursor found.code }
-    ensures { workspace.new ≡ advanced setting.now.sizes.guesses setting.now.sizes.top setting.now.sizes.places base depth
+    ensures { workspace.new ≡ advanced setting.now.sizes.guesses setting.now.sizes.top setting.now.sizes.places stack.base stack.depth
         found.cursor found.code (shade colour) workspace.old }
 {
-    workspace[base + setting.sizes.places + depth - 1] = (found.cursor + 1) as u16;
+    workspace[stack.base + setting.sizes.places + stack.depth - 1] = (found.cursor + 1) as u16;
     paint(setting, workspace, found.code, colour);
-    push(setting, workspace, base, depth, found.code);
+    push(setting, workspace, stack, found.code);
 }
 
 // A turn of the inner search, whose stack has `depth` places: on to a blue place, which becomes red, or back, to a new depth; or a
@@ -93,8 +78,11 @@ fn inner_turn(setting: &Setting, workspace: &mut [u16], depth: usize) -> Control
     ensures turned { (c : OfCase setting.now) (r w d : ℕ) (first : List ℕ) → InnerIn c r w d first workspace.old depth
         → UnlessMet c (suc d) workspace.new result (InnerOn c r w d first workspace.old depth workspace.new) }
 {
-    let base = 3 * setting.sizes.places;
-    match setting.scan_top(workspace, base, depth, Colour::Red as u16) {
+    let stack = Stack {
+        base: 3 * setting.sizes.places,
+        depth,
+    };
+    match setting.scan_top(workspace, stack, Colour::Red) {
         None => ControlFlow::Continue(depth - 1),
         Some(found) => {
             if colour_of(setting, workspace, found.code) == Colour::Cyan as u16 {
@@ -103,7 +91,7 @@ fn inner_turn(setting: &Setting, workspace: &mut [u16], depth: usize) -> Control
                     at: found.code,
                 });
             }
-            advance(setting, workspace, base, depth, found, Colour::Red);
+            advance(setting, workspace, stack, found, Colour::Red);
             ControlFlow::Continue(depth + 1)
         }
     }
@@ -118,8 +106,12 @@ fn inner_search(setting: &Setting, workspace: &mut [u16], code: usize) -> Contro
         → UnlessMet c (suc d) workspace.new result
         (λ _. InnerIn c r (below 1 (take setting.now.sizes.places workspace.old)) d workspace.old workspace.new 0) }
 {
-    push(setting, workspace, 3 * setting.sizes.places, 0, code);
-    // Not a `for`: the depth goes up and down.
+    let stack = Stack {
+        base: 3 * setting.sizes.places,
+        depth: 0,
+    };
+    push(setting, workspace, stack, code);
+    // Not a `for`: the depth goes up and down. The outer search's loop is alike in shape alone: another turn, and it tells another thing.
     let mut depth = 1;
     while 0 < depth {
         depth = inner_turn(setting, workspace, depth)?;
@@ -151,15 +143,18 @@ fn outer_turn(setting: &Setting, workspace: &mut [u16], depth: usize) -> Control
     ensures turned { (c : OfCase setting.now) (r : ℕ) → OuterIn c r workspace.old depth
         → UnlessMet c depth workspace.new result (OuterOn c r workspace.old depth workspace.new) }
 {
-    let base = setting.sizes.places;
-    match setting.scan_top(workspace, base, depth, Colour::Blue as u16) {
+    let stack = Stack {
+        base: setting.sizes.places,
+        depth,
+    };
+    match setting.scan_top(workspace, stack, Colour::Blue) {
         None => {
-            let code = usize::from(workspace[base + depth - 1]);
+            let code = usize::from(workspace[stack.base + depth - 1]);
             leave(setting, workspace, code)?;
             ControlFlow::Continue(depth - 1)
         }
         Some(found) => {
-            advance(setting, workspace, base, depth, found, Colour::Cyan);
+            advance(setting, workspace, stack, found, Colour::Cyan);
             ControlFlow::Continue(depth + 1)
         }
     }
@@ -173,27 +168,21 @@ fn outer_search(setting: &Setting, workspace: &mut [u16], root: usize) -> Contro
         → PassedTo c (place_in setting.now root + 1) workspace.new result }
 {
     paint(setting, workspace, root, Colour::Cyan);
-    push(setting, workspace, setting.sizes.places, 0, root);
+    let stack = Stack {
+        base: setting.sizes.places,
+        depth: 0,
+    };
+    push(setting, workspace, stack, root);
     // Not a `for`: the depth goes up and down.
     let mut depth = 1;
     while 0 < depth {
-        match outer_turn(setting, workspace, depth) {
-            ControlFlow::Continue(next) => {
-                depth = next;
-            }
-            ControlFlow::Break(Met { inner, at }) => {
-                return ControlFlow::Break(Hit {
-                    outer: depth,
-                    inner,
-                    at,
-                });
-            }
-        }
+        depth = outer_turn(setting, workspace, depth).map_break(|met| Hit { outer: depth, met })?;
     }
     ControlFlow::Continue(())
 }
 
-// What a whole search goes by: the setting of its scans, and the roots that it starts from.
+// What a whole search goes by: the setting of its scans, and the roots that it starts from. That both are one case's is no ghost field,
+// for the reasons beside Setting.
 #[derive(Clone, Copy)]
 pub struct Plan<'a> {
     pub setting: Setting<'a>,

@@ -34,7 +34,7 @@ pub fn violated(stem: &[u16], around: &[u16], out: &mut [u8; LONGEST]) -> usize
     text.filled
 }
 
-// The line of a refusal.
+// The line of a refusal: its two numbers, as they are printed.
 #[tactic(auto, using(crate::proofs::Laws::digits_few))]
 pub fn refused(number: usize, place: usize, out: &mut [u8; LONGEST]) -> usize
     ensures { Printed (refused_text number place) out.old out.new result }
@@ -48,8 +48,9 @@ pub fn refused(number: usize, place: usize, out: &mut [u8; LONGEST]) -> usize
     text.filled
 }
 
-// The text so far: the first bytes of the array. Each method puts one part behind it. (std's writers over lent bytes do not promise what
-// then stands in them.)
+// The text so far: the first bytes of the array. Each method puts one part behind it. (The array is lent, and the contracts say what then
+// stands in it. An `ArrayVec` owns its array. std's `Cursor` promises that of a `write` alone, and not of `write_all` or `write!`; and each
+// `write` gives a Result, where nothing can fail.)
 #[derive(Drop)]
 struct Text<'a> {
     out: &'a mut [u8],
@@ -73,7 +74,7 @@ impl Text<'_> {
     }
 
     // A number in decimal: the digits of its tenth first, unless it is below ten. By hand: the kit's `itoa` would be one crate more to
-    // trust.
+    // trust. (`as`: std has no From to a narrower type.)
     fn number(&mut self, n: usize)
         requires { self.old.filled + length (digits n) ≤ LONGEST }
         ensures { Adds (digits n) self.old self.new }

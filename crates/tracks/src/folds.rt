@@ -8,7 +8,8 @@ ghost use Rattle.tracks.specs.Entries.{entries};
 use crate::Run;
 
 impl<'a> Run<'a> {
-    // The entry at a position of the endless path, within a turn after the first.
+    // The entry at a position of the endless path, within a turn after the first. (`judge::run::Run::after` is so for the next entry: an `if`
+    // each, in crates of which neither stands on the other.)
     fn entry_at(&self, i: usize) -> usize
         requires { i < self.now.stem + self.now.repeat + self.now.repeat }
         ensures position { result ≡ position self.now.stem self.now.repeat i }

@@ -39,7 +39,6 @@ pub struct Run<'a> {
     pub ghost outer_lies: { places + outer ≤ length workspace.now },
     pub ghost run_lies: { 3 * places + 1 + (stem + repeat) ≤ length workspace.now + outer },
     pub ghost some_loop: { 1 ≤ repeat },
-    pub ghost fits: { stem + repeat < 65536 },
 }
 
 impl Run<'_> {
@@ -56,6 +55,7 @@ impl Run<'_> {
         } else {
             3 * self.places + 1 + (i - self.outer)
         };
+        // `as`: std has no From that narrows, and the proof shows that it fits.
         places::state(usize::from(self.workspace[at])) as u16
     }
 

@@ -30,15 +30,15 @@ rule_holds-requires c =
 pub returns-then-rule_holds : goal.returns-then-rule_holds
 returns-then-rule_holds c =
     let case = known _ _ c.in_ok-case.case.admitted in
-    let held = c.in_ok-run.ensures.held in
-    rw (← c.in_ok-case.ensures.read, ← held.0, ← held.1, ← held.2)
-    (judged_true _ case.passed _ _ _ _ c.in_ok-run.ensures.passed _ c.rule_holds.ensures.cleared
+    let run = c.in_ok-run.ensures in
+    rw (← c.in_ok-case.ensures.read, ← run.track, ← run.k, ← run.m)
+    (judged_true _ case.passed _ _ _ _ run.passed _ c.rule_holds.ensures.cleared
     (rw (← c.states.ensures, ← c.nodes.ensures) (sym c.rule_holds.ensures.rule ∙ c.if-rule_holds.true)))
 
 pub returns-else-rule_holds : goal.returns-else-rule_holds
 returns-else-rule_holds c =
     let case = known _ _ c.in_ok-case.case.admitted in
-    let held = c.in_ok-run.ensures.held in
-    rw (← c.in_ok-case.ensures.read, ← held.0, ← held.1, ← held.2)
-    (judged_false _ case.passed _ _ _ _ c.in_ok-run.ensures.passed _ c.rule_holds.ensures.cleared
+    let run = c.in_ok-run.ensures in
+    rw (← c.in_ok-case.ensures.read, ← run.track, ← run.k, ← run.m)
+    (judged_false _ case.passed _ _ _ _ run.passed _ c.rule_holds.ensures.cleared
     (rw (← c.states.ensures, ← c.nodes.ensures) (sym c.rule_holds.ensures.rule ∙ c.if-rule_holds.false)))

@@ -1,8 +1,9 @@
 -- What is filled is the outcome: of a refused case, of a list that is shorter than S, and of a list that is long enough.
-use Rattle.std.proofs.Common.{◌≡◌, ap, sym, arith, add-one, length}
+use Rattle.std.proofs.Common.{◌≡◌, ap, sym, ◌∙◌, arith, add-one, length}
+use Rattle.std.proofs.lemmas.List.{length-take-le}
 use Rattle.std.proofs.lemmas.Result.{err_from_is_err_and}
 use Rattle.reading.proofs.Known.{known}
-use Rattle.mullodai.proofs.StateLists.{mid_zero, mid_next, refused_filled, short_filled, all_filled}
+use Rattle.mullodai.proofs.StateLists.{mid_zero, mid_next, mid_all, refused_filled, short_filled, all_filled}
 use Rattle.mullodai.proofs.fill.Goals as goal
 
 pub returns-in_err-case : goal.returns-in_err-case
@@ -20,14 +21,17 @@ loop-s-init c = sym (mid_zero _ _)
 pub record_at-requires : goal.record_at-requires
 record_at-requires c =
     let k = known _ _ c.in_ok-case.case.admitted in
-    omega (arith, ap length c.states.ensures, k.facts.state_bytes, k.states_is)
+    omega (arith, ap length c.states-state_list.ensures, k.facts.state_bytes, k.states_is, length-take-le _ c.args.list.now c.if-list-states.false)
 
 pub loop-s-preserved : goal.loop-s-preserved
 loop-s-preserved c =
-    rw (c.record_at.ensures, c.states.ensures, c.loop-s.invariant, add-one) (mid_next _ _ c.loop-s.s (omega arith))
+    rw (c.record_at.ensures, c.loop-s.invariant, add-one, ← c.in_ok-case.ensures.read, ← c.states-state_list.ensures)
+    (mid_next _ _ c.loop-s.s (omega arith))
 
 pub returns : goal.returns
 returns c =
-    let filled : c.loop-s.s ≡ c.in_ok-case.case.shape.states = omega arith in
-    rw (← c.in_ok-case.ensures.read, c.loop-s.invariant, filled)
-    (all_filled _ _ _ c.in_ok-case.case.admitted (omega arith))
+    let lent = length-take-le _ c.args.list.now c.if-list-states.false in
+    let s : c.loop-s.s ≡ c.in_ok-case.case.shape.states = omega (arith, lent) in
+    let filled = c.loop-s.invariant ∙ mid_all _ _ _ (lent ∙ sym s) in
+    rw (filled, s, ← c.in_ok-case.ensures.read)
+    (all_filled _ _ _ c.in_ok-case.case.admitted c.if-list-states.false)

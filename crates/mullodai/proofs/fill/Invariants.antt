@@ -5,4 +5,4 @@ use Rattle.mullodai.proofs.StateLists.{mid}
 use Rattle.mullodai.proofs.fill.Given as goal
 
 abbrev pub invariant-loop-s : goal.invariant-loop-s
-invariant-loop-s l = l.list ≡ mid (parts_of l.case.bytes.now).state_list l.fn.list l.s
+invariant-loop-s l = l.record-items ≡ mid (parts_of l.fn.bytes).state_list l.initial.record-items l.s

@@ -23,7 +23,6 @@ invariant_of-found c =
       outer_lies = room.1.0;
       run_lies = omega (arith, room.1.1);
       some_loop = omega (arith, room.0);
-      fits = omega (arith, room.2, p.0.size_is, places_within p.0.admitted);
     }
 
 pub returns : goal.returns

@@ -2,14 +2,14 @@
 -- is the bits left. Assumes nothing.
 use Prim.Native.Nat.{◌-◌, ◌≤◌}
 use Rattle.workspace.proofs.Scanning.{Spared}
-use Rattle.scans.specs.Cases.{colour_with}
+use Rattle.scans.specs.Cases.{shade, colour_with}
 use Rattle.scans.proofs.Setting.scan_bits.Given as goal
 
 abbrev pub invariant-loop-bits : goal.invariant-loop-bits
 invariant-loop-bits l = record {
   from : l.from.bits ≤ l.b;
   low : l.b ≤ 16;
-  spared : Spared l.fit (colour_with l.self l.workspace l.from) l.limit l.from.bits l.b;
+  spared : Spared l.fit (colour_with l.self l.workspace l.from) (shade l.limit) l.from.bits l.b;
 }
 
 abbrev pub decreases-loop-bits : goal.decreases-loop-bits

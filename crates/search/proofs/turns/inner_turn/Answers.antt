@@ -19,13 +19,13 @@ scan_top-requires c =
 pub colour_of-requires : goal.colour_of-requires
 colour_of-requires c =
     let p = c.requires.inside in
-    let found = c.scan_top.ensures.found p.0 (inner_topped p.0 p.5 c.requires.deep) _ c.in-Some.is in
-    coded_paints p.0 (omega (arith, p.5.at.lent)) found.0
+    let topped = inner_topped p.0 p.5 c.requires.deep in
+    coded_paints p.0 (omega (arith, p.5.at.lent)) (c.in-Some.ensures.coded p.0 topped)
 
 pub returns-then-colour_of-clause-turned : goal.returns-then-colour_of-clause-turned
 returns-then-colour_of-clause-turned c x r w d first n =
-    let found = c.scan_top.ensures.found x (inner_topped x n c.requires.deep) _ c.in-Some.is in
-    inner_met x n c.requires.deep found.0 found.1 (rw c.colour_of.ensures at c.if-colour_of.true)
+    let topped = inner_topped x n c.requires.deep in
+    inner_met x n c.requires.deep (c.in-Some.ensures.coded x topped) (c.in-Some.ensures.scanned x topped) (rw c.colour_of.ensures at c.if-colour_of.true)
 
 -- and where it is not cyan, the search goes on to it
 
@@ -33,8 +33,8 @@ advanced : (c : Else-colour_of) (x : OfCase c.args.setting.now) (r w d : ℕ) (f
     → InnerIn x r w d first c.args.workspace.now c.args.depth
     → InnerAdvanced x r w d first c.args.workspace.now c.args.depth c.in-Some.found.cursor c.in-Some.found.code
 advanced c x r w d first n =
-    let found = c.scan_top.ensures.found x (inner_topped x n c.requires.deep) _ c.in-Some.is in
-    inner_advanced x n c.requires.deep found.0 found.1 (rw c.colour_of.ensures at c.if-colour_of.false)
+    let topped = inner_topped x n c.requires.deep in
+    inner_advanced x n c.requires.deep (c.in-Some.ensures.coded x topped) (c.in-Some.ensures.scanned x topped) (rw c.colour_of.ensures at c.if-colour_of.false)
 
 pub advance-requires : goal.advance-requires
 advance-requires c =
@@ -54,4 +54,4 @@ returns-else-colour_of-clause-turned c x r w d first n =
 
 pub returns-in-None-clause-turned : goal.returns-in-None-clause-turned
 returns-in-None-clause-turned c x r w d first n =
-    inner_back x n c.requires.deep (c.scan_top.ensures.nothing x (inner_topped x n c.requires.deep) c.in-None.is)
+    inner_back x n c.requires.deep (c.in-None.ensures.scanned x (inner_topped x n c.requires.deep))

@@ -20,7 +20,7 @@ leaving : (c : After-from-code) (x : OfCase c.args.setting.now) (r : ℕ) → Ou
     → Leaving x r c.args.workspace.now (c.args.depth - 1) c.from-code.result
 leaving c x r o =
     rw c.from-code.ensures
-    (outer_leaving x o c.requires.deep (c.scan_top.ensures.nothing x (outer_topped x o c.requires.deep) c.in-None.is))
+    (outer_leaving x o c.requires.deep (c.in-None.ensures.scanned x (outer_topped x o c.requires.deep)))
 
 pub leave-requires : goal.leave-requires
 leave-requires c =
@@ -44,16 +44,16 @@ returns-in_ok-leave-in-None-clause-turned c x r o =
 pub advance-requires : goal.advance-requires
 advance-requires c =
     let p = c.requires.inside in
-    let found = c.scan_top.ensures.found p.0 (outer_topped p.0 p.2 c.requires.deep) _ c.in-Some.is in
-    (outer_advanced p.0 p.2 c.requires.deep found.0 found.1).asked
+    let topped = outer_topped p.0 p.2 c.requires.deep in
+    (outer_advanced p.0 p.2 c.requires.deep (c.in-Some.ensures.coded p.0 topped) (c.in-Some.ensures.scanned p.0 topped)).asked
 
 pub returns-in-Some-clause-kept : goal.returns-in-Some-clause-kept
 returns-in-Some-clause-kept c =
     let p = c.requires.inside in
-    let found = c.scan_top.ensures.found p.0 (outer_topped p.0 p.2 c.requires.deep) _ c.in-Some.is in
-    rw c.advance.ensures (outer_advanced p.0 p.2 c.requires.deep found.0 found.1).kept
+    let topped = outer_topped p.0 p.2 c.requires.deep in
+    rw c.advance.ensures (outer_advanced p.0 p.2 c.requires.deep (c.in-Some.ensures.coded p.0 topped) (c.in-Some.ensures.scanned p.0 topped)).kept
 
 pub returns-in-Some-clause-turned : goal.returns-in-Some-clause-turned
 returns-in-Some-clause-turned c x r o =
-    let found = c.scan_top.ensures.found x (outer_topped x o c.requires.deep) _ c.in-Some.is in
-    rw c.advance.ensures (outer_advanced x o c.requires.deep found.0 found.1).on
+    let topped = outer_topped x o c.requires.deep in
+    rw c.advance.ensures (outer_advanced x o c.requires.deep (c.in-Some.ensures.coded x topped) (c.in-Some.ensures.scanned x topped)).on

@@ -8,4 +8,4 @@ pub is_set-requires : goal.is_set-requires
 is_set-requires c = omega (arith, c.if-self-b.false, rooting_guesses c.requires.0)
 
 pub returns-then-is_set : goal.returns-then-is_set
-returns-then-is_set c of h = sym (root_true of _ _ h c.if-self-b.false (sym c.is_set.ensures ∙ c.if-is_set.true))
+returns-then-is_set c of h = sym (root_true of _ _ h c.if-self-b.false (rw c.from.ensures at (sym c.is_set.ensures ∙ c.if-is_set.true)))
