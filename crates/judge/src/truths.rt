@@ -24,8 +24,8 @@ pub struct Judging<'a> {
 }
 
 // The entries stand beside it, and three methods ask for as many as the run has. In one struct with their `&mut`, five would promise that
-// the rule, the run and the borrow stay the same, as `text`'s `Adds` does by `same_array`. That bit n is still to be added (`Adding`) speaks of the entries too, so it stays a
-// clause of the three functions that add a node.
+// the rule, the run and the borrow stay the same, as `text`'s `Adds` does by `same_array`. That bit n is still to be added (`Adding`)
+// speaks of the entries too, so it stays a clause of the three functions that add a node.
 impl Judging<'_> {
     ghost use Rattle.judge.specs.Truths.{value, Valued};
 

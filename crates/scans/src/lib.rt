@@ -55,9 +55,9 @@ fn lowest_set(lane: u16, b: usize) -> Option<usize>
 }
 
 // What a scan goes by: a case's edges, its lanes, where each state's edges start, and its sizes. That they are one case's is a clause
-// where it is needed, one that begins with `(c : OfCase ..)`. It is no ghost field: the fields do
-// not give the case, and a ghost field has one proof at most. It is no `ghost` clause: a caller picks such a value from the arguments
-// alone, and a case is not made from those.
+// where it is needed, one that begins with `(c : OfCase ..)`. It is no ghost field: the fields do not give the case, and a ghost field
+// has one proof at most. It is no `ghost` clause: a caller picks such a value from the arguments alone, and a case is not made from
+// those.
 #[derive(Clone, Copy)]
 pub struct Setting<'a> {
     pub edges: &'a [u8],

@@ -1,8 +1,8 @@
-// The turns of the search. In the workspace lie P entries each of: colours, outer stack, its cursors, inner stack, its cursors. It stays
-// a parameter beside the setting: in one struct behind a `&mut`, each contract would have to say that the setting is as it was; and
-// what stays of the workspace, `Kept`, is a clause of each. The
-// functions that take a setting are no methods of it, since it is declared in scans. An `as` stands where std has no From: from an
-// enum, and to a narrower type, where the proof shows that it fits.
+// The turns of the search. In the workspace lie P entries each of: colours, outer stack, its cursors, inner stack, its cursors. They are
+// one slice, since C lends the workspace as one array of 16-bit entries, and there is no heap. The workspace stays a parameter beside the
+// setting: in one struct behind a `&mut`, each contract would have to say that the setting is as it was; and what stays of the workspace,
+// `Kept`, is a clause of each. The functions that take a setting are no methods of it, since it is declared in scans. An `as` stands where
+// std has no From: from an enum, and to a narrower type, where the proof shows that it fits.
 ghost use Rattle.std.specs.Prelude.{◌≡◌, ℕ, suc, ◌+◌, ◌%◌, ◌≤◌, ◌<◌, List, get_or, set, take};
 ghost use Rattle.graph.proofs.Machine.{below};
 ghost use Rattle.workspace.proofs.Views.{Kept};
