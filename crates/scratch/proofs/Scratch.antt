@@ -1,12 +1,13 @@
 -- What the judge's scratch holds: what its inner functions ask and leave. Assumes nothing.
-use Prim.Native.Nat.{ℕ, ◌+◌, ◌*◌, ◌^◌, ◌≤◌, ◌<◌}
+use Prim.Native.Nat.{ℕ, ◌+◌, ◌*◌, ◌-◌, ◌^◌, ◌≤◌, ◌<◌}
 use mathlib.Core.Path.{◌≡◌}
 use mathlib.Core.Bool.{Bool, cond}
 use mathlib.Core.List.{List}
 use lib.ListN.{length, get_or}
 use Rattle.meaning.specs.Table.{Node}
 use Rattle.bits.specs.Bits.{bit}
-use Rattle.meaning.specs.Laws.{Ordered, plain}
+use Rattle.meaning.specs.Laws.{Ordered, plain, greatest}
+use Rattle.rule.proofs.Passes.{pass, seed}
 use Rattle.rule.proofs.Entries.{now_at, stay_at}
 use Rattle.reading.specs.Parts.{label_of, node_of, node_count}
 
@@ -46,6 +47,12 @@ added entry n b = entry + cond b (2 ^ n) 0
 -- bit n, of these truth values, is added to each entry
 abbrev pub AddedTo : ℕ → (ℕ → Bool) → (before after : List ℕ) → Type 0
 AddedTo n f before after = (i : ℕ) → i < length before → at after i ≡ added (at before i) n (f i)
+
+-- bit n is added by the two passes of a node that lasts: one over the loop gives the seed of one over all entries
+abbrev pub Passed : Node → (k m n : ℕ) → (before after : List ℕ) → Type 0
+Passed x k m n before after =
+    let kept = seed (now_in x before) (stay_in x before) (greatest x.operator) k m in
+    AddedTo n (λ i. pass (now_in x before) (stay_in x before) kept i (length before - i)) before after
 
 -- bit n is still to be added to each entry
 pub record Adding (n : ℕ) (entries : List ℕ) : Type 0 where

@@ -10,8 +10,8 @@ add_plain-requires-clause-adding c = adding _ _ _ _ _ _ (omega (arith, c.args.se
 pub add_next-requires-clause-adding : goal.add_next-requires-clause-adding
 add_next-requires-clause-adding c = adding _ _ _ _ _ _ (omega (arith, c.args.self.now.tellable.few_nodes)) c.requires.lower.values
 
-pub add_lasting-requires : goal.add_lasting-requires
-add_lasting-requires c = adding _ _ _ _ _ _ (omega (arith, c.args.self.now.tellable.few_nodes)) c.requires.lower.values
+pub add_passes-requires-clause-adding : goal.add_passes-requires-clause-adding
+add_passes-requires-clause-adding c = adding _ _ _ _ _ _ (omega (arith, c.args.self.now.tellable.few_nodes)) c.requires.lower.values
 
 pub returns-in-Plain : goal.returns-in-Plain
 returns-in-Plain c =
@@ -43,5 +43,5 @@ returns-in_default c =
       whole = omega arith;
       values = λ i h.
           left_by_passes _ _ _ _ _ _ (rw c.in-Temporal.is at c.node_at-node.ensures) run.some_loop _ lower.whole lower.values _
-          (takes_passes _ c.in_default.not-X) _ c.loop_seed-seed.ensures c.add_lasting.ensures i (omega arith);
+          (takes_passes _ c.in_default.not-X) _ refl c.add_passes.ensures i (omega arith);
     }
