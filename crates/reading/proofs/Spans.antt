@@ -27,9 +27,12 @@ module _ (bytes : List ℕ) where
 
 -- the offsets of a case whose fields are right
 pub record Offsets (bytes : List ℕ) : Type 0 where
+  pub few_states : get_or bytes 3 0 ≤ 64
   pub few_atoms : get_or bytes 4 0 ≤ 16
   pub states_end : 11 + 3 * get_or bytes 3 0 ≤ length bytes
+  pub edges_few : length_at bytes (at03 bytes) ≤ 1024
   pub edges_end : at04 bytes ≡ 11 + 3 * get_or bytes 3 0 + length_at bytes (at03 bytes)
+  pub nodes_few : length_at bytes (at04 bytes) ≤ 96
   pub nodes_end : length bytes ≡ at04 bytes + 3 + length_at bytes (at04 bytes)
 
 at04_is : (bytes : List ℕ) → at04 bytes ≡ 11 + 3 * get_or bytes 3 0 + length_at bytes (at03 bytes)
@@ -40,9 +43,12 @@ pub offsets : (bytes : List ℕ) → fields_refusal bytes ≡ Ok tt → Offsets 
 offsets bytes e =
     let f = fields_passed bytes e in
     record {
+      few_states = f.range.few_states;
       few_atoms = f.range.few_atoms;
       states_end = omega (arith, f.third.head);
+      edges_few = f.third.size.below;
       edges_end = at04_is bytes;
+      nodes_few = f.fourth.size.below;
       nodes_end = omega (arith, f.fourth.value, f.ends);
     }
 

@@ -207,7 +207,7 @@ pub const FIRST_TEMPORAL: usize = 6;
 
 const FIRST_EVENTUALITY: usize = 7;
 
-const LAST_OPERATOR: usize = 11;
+pub const LAST_OPERATOR: usize = 11;
 
 // How many nodes have operators from this number to 11. By number, since T and E are defined so: an enum read from each number
 // would be numbered again to say what was counted.

@@ -8,7 +8,7 @@ use Rattle.bits.proofs.Bit.{digit, eqb_digit, bit-lowest}
 use Rattle.bits.proofs.Word.{Word, word_of_one}
 use Rattle.rule.proofs.Passes.{pass, pass_turn}
 
-bit_of_digit : (b : Bool) → bit (digit b) 0 ≡ b
+pub bit_of_digit : (b : Bool) → bit (digit b) 0 ≡ b
 bit_of_digit b = bit-lowest (digit b) ∙ small b
   where
     small : (c : Bool) → eqb (digit c % 2) 1 ≡ c

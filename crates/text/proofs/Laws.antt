@@ -7,7 +7,7 @@ use Rattle.std.proofs.lemmas.List.Edits.{paste-paste}
 use native.Mathlib.Decide.{dec_lt}
 use native.Mathlib.Nat.{pow-suc}
 use borrow.Author.Tests.{lt-ltb, le-ltb}
-use Rattle.text.specs.Text.{digits_in, digits, states_text, Printed, Shown}
+use Rattle.text.specs.Text.{digits_in, digits, states_text, refused_text, violated_text, Printed, Shown}
 use Rattle.text.specs.Parts.{Adds}
 use Rattle.text.specs.declared.Text.{Text}
 
@@ -28,6 +28,9 @@ adds_printed {text} {x} {z} empty w =
       stored = simp (w.stored, w.filled, empty, take_all (length text) text (omega arith));
       counts = omega arith;
     }
+
+pub printed_within : {text before after : List ℕ} {filled : ℕ} → Printed text before after filled → filled ≤ length after
+printed_within {text} {before} {after} {filled} p = omega (arith, simp length-append at (ap length p.stored))
 
 -- and so are five parts, one behind the other
 pub five_printed : {a b c d e : List ℕ} {u v w x y z : Text} → u.filled ≡ 0
@@ -59,16 +62,16 @@ pub tenth_shorter : (n : ℕ) → 10 ≤ n → length (digits (n / 10)) + 1 ≡ 
 tenth_shorter n h = rw (digits_from_ten n h, length-append)
 
 -- a number below 10 ^ (k + 1) has at most k + 1 digits
-digits_within : (k n : ℕ) → n < 10 ^ suc k → length (digits n) ≤ suc k
-digits_within zero n h = rw (digits_below_ten n h) (omega arith)
-digits_within (suc k) n h = go (dec_lt n 10) (digits_within k (n / 10) (omega (arith, pow-suc 10 (suc k))))
+pub digits_few : (k n : ℕ) → n < 10 ^ suc k → length (digits n) ≤ suc k
+digits_few zero n h = rw (digits_below_ten n h) (omega arith)
+digits_few (suc k) n h = go (dec_lt n 10) (digits_few k (n / 10) (omega (arith, pow-suc 10 (suc k))))
   where
     go : Dec (n < 10) → length (digits (n / 10)) ≤ suc k → length (digits n) ≤ suc (suc k)
     go (yes small) tenth = rw (digits_below_ten n small) (omega arith)
     go (no large) tenth = rw (digits_from_ten n (omega arith), length-append) (omega arith)
 
-pub digits_few : (n : ℕ) → n < 2 ^ 64 → length (digits n) ≤ 20
-digits_few n h = digits_within 19 n (omega arith)
+pub word_digits : (n : ℕ) → n < 2 ^ 64 → length (digits n) ≤ 20
+word_digits n h = digits_few 19 n (omega arith)
 
 pub states_append : (a b : List ℕ) → states_text (a ++ b) ≡ states_text a ++ states_text b
 unfolding states_text
@@ -87,16 +90,27 @@ states_room states i h =
     omega (arith, simp (states_append, states_more states i h, length-append) at whole)
 
 -- a state of two digits takes at most three bytes
-states_short : (states : List ℕ) → ((i : ℕ) → i < length states → get_or states i 0 < 64) → length (states_text states) ≤ 3 * length states
+pub states_short : (states : List ℕ) → ((i : ℕ) → i < length states → get_or states i 0 < 64) → length (states_text states) ≤ 3 * length states
 unfolding states_text
 states_short [] low = omega arith
 states_short (s ∷ states) low =
     let first : s < 64 = low 0 (omega arith) in
-    let few : length (digits s) ≤ 2 = digits_within 1 s (omega arith) in
+    let few : length (digits s) ≤ 2 = digits_few 1 s (omega arith) in
     rw length-append (omega (arith, states_short states (λ i h. low (suc i) (omega arith))))
+
+pub refused_length : (number place : ℕ) → length (refused_text number place) ≡ 13 + length (digits number) + length (digits place)
+unfolding refused_text
+refused_length number place = simp length-append (omega arith)
+
+pub violated_length : (stem loop : List ℕ) → length (violated_text stem loop) ≡ 19 + length (states_text stem) + length (states_text loop)
+unfolding violated_text
+violated_length stem loop = simp length-append (omega arith)
 
 -- a run that can be shown fits the longest text
 pub run_room : (stem loop : List ℕ) → Shown (stem ++ loop) → 19 + length (states_text stem) + length (states_text loop) ≤ 30739
 run_room stem loop shown =
     let short = states_short (stem ++ loop) shown.states in
     omega (arith, length-append stem loop, simp (states_append, length-append) at short)
+
+pub shown_fits : (stem loop : List ℕ) → Shown (stem ++ loop) → length (violated_text stem loop) ≤ 30739
+shown_fits stem loop shown = omega (arith, violated_length stem loop, run_room stem loop shown)

@@ -35,7 +35,7 @@ pub fn violated(stem: &[u16], around: &[u16], out: &mut [u8; LONGEST]) -> usize
 }
 
 // The line of a refusal: its two numbers, as they are printed.
-#[tactic(auto, using(crate::proofs::Laws::digits_few))]
+#[tactic(auto, using(crate::proofs::Laws::word_digits))]
 pub fn refused(number: usize, place: usize, out: &mut [u8; LONGEST]) -> usize
     ensures { Printed (refused_text number place) out.old out.new result }
 {

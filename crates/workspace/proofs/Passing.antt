@@ -46,7 +46,7 @@ module _ (l : Line) (ws : List ℕ) (limit end cursor : ℕ) (of : Scannable l w
         subst (λ (i : ℕ). i < length ws) (index_at_lem j h) (of.inside (edge * 16 + j) (low_at j h) (fits_at_lem j h ∙ e))
 
     module _ (past : Passed l ws limit cursor (edge * 16 + bits)) (r : ℕ) (u : LowestUnder fit (λ j. colour j) limit bits r) where
-      turn_passed : (e : ℕ) → e ≤ edge * 16 + r → e ≤ edge * 16 + 16 → Passed l ws limit cursor e
+      pub turn_passed : (e : ℕ) → e ≤ edge * 16 + r → e ≤ edge * 16 + 16 → Passed l ws limit cursor e
       turn_passed e by_r by_edge = record { passes = λ a from under f. go a from under f (dec_lt a (edge * 16 + bits)) }
         where
           go : (a : ℕ) → cursor ≤ a → a < e → fits_at l a ≡ true → Dec (a < edge * 16 + bits) → limit ≤ get_or ws (index_at l a) 0
