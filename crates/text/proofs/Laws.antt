@@ -29,13 +29,14 @@ adds_printed {text} {x} {z} empty w =
       counts = omega arith;
     }
 
-pub printed_within : {text before after : List ℕ} {filled : ℕ} → Printed text before after filled → filled ≤ length after
-printed_within {text} {before} {after} {filled} p = omega (arith, simp length-append at (ap length p.stored))
-
 -- and so are five parts, one behind the other
 pub five_printed : {a b c d e : List ℕ} {u v w x y z : Text} → u.filled ≡ 0
     → Adds a u v → Adds b v w → Adds c w x → Adds d x y → Adds e y z → Printed (a ++ b ++ c ++ d ++ e) u.out.now z.out.now z.filled
 five_printed empty p q r s t = adds_printed empty (adds_both (adds_both (adds_both (adds_both p q) r) s) t)
+
+-- what is filled lies within the array
+pub printed_within : {text before after : List ℕ} {filled : ℕ} → Printed text before after filled → filled ≤ length after
+printed_within {text} {before} {after} {filled} p = omega (arith, simp length-append at (ap length p.stored))
 
 -- steps beyond the number change nothing
 steps_enough : (f g n : ℕ) → n < f → n < g → digits_in f n ≡ digits_in g n
@@ -98,6 +99,7 @@ states_short (s ∷ states) low =
     let few : length (digits s) ≤ 2 = digits_few 1 s (omega arith) in
     rw length-append (omega (arith, states_short states (λ i h. low (suc i) (omega arith))))
 
+-- how long the texts are
 pub refused_length : (number place : ℕ) → length (refused_text number place) ≡ 13 + length (digits number) + length (digits place)
 unfolding refused_text
 refused_length number place = simp length-append (omega arith)
