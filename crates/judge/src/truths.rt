@@ -6,7 +6,7 @@ ghost use Rattle.meaning.specs.Runs.{position};
 ghost use Rattle.rule.proofs.Passes.{pass, seed as seed_of};
 ghost use Rattle.rule.specs.Operator.{plain_code, temporal_code};
 ghost use Rattle.reading.specs.Parts.{node_count};
-ghost use Rattle.scratch.proofs.Scratch.{node_with, now_in, stay_in, plain_in, at, Adding, AddedTo, Passed, labels_of, Tellable};
+ghost use Rattle.scratch.proofs.Scratch.{node_with, now_in, stay_in, plain_in, at, Adding, AddedByPasses, AddedTo, labels_of, Tellable};
 
 use crate::run::Run;
 pub use crate::word::Entry;
@@ -85,7 +85,7 @@ impl Judging<'_> {
         requires whole { length entries.old ≡ self.now.run.k + self.now.run.m }
         requires adding { Adding n entries.old }
         ensures { let node = node_with (temporal_code operator) operands.first operands.second in
-            Passed node self.now.run.k self.now.run.m n entries.old entries.new }
+            AddedByPasses node self.now.run.k self.now.run.m n entries.old entries.new }
     {
         match operator {
             Temporal::X => self.two_passes(Temporal::X, operands, n, entries),
@@ -103,7 +103,7 @@ impl Judging<'_> {
         requires whole { length entries.old ≡ self.now.run.k + self.now.run.m }
         requires adding { Adding n entries.old }
         ensures { let node = node_with (temporal_code operator) operands.first operands.second in
-            Passed node self.now.run.k self.now.run.m n entries.old entries.new }
+            AddedByPasses node self.now.run.k self.now.run.m n entries.old entries.new }
     {
         let seed = self.loop_seed(operator, operands, entries);
         add_lasting(operator, operands, n, seed, entries);

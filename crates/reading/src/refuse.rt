@@ -170,8 +170,8 @@ fn not_above(list: &[u8], e: usize) -> bool
     if e == 0 {
         return false;
     }
-    // By from and then by to, and not `<=` of two edges: compiled, that has 20 instructions where this has 14, and a small table of many
-    // edges took 1.5 times as long to read.
+    // By from and then by to, and not `<=` of two edges: compiled, that has 20 instructions where this has 14 or 15, and a small table of
+    // many edges took 1.5 times as long to read.
     let edge = parts::edge_at(list, e);
     let from = parts::edge_at(list, e - 1).from;
     if edge.from == from {

@@ -49,8 +49,8 @@ abbrev pub AddedTo : ℕ → (ℕ → Bool) → (before after : List ℕ) → Ty
 AddedTo n f before after = (i : ℕ) → i < length before → at after i ≡ added (at before i) n (f i)
 
 -- bit n is added by the two passes of a node that lasts: one over the loop gives the seed of one over all entries
-abbrev pub Passed : Node → (k m n : ℕ) → (before after : List ℕ) → Type 0
-Passed x k m n before after =
+abbrev pub AddedByPasses : Node → (k m n : ℕ) → (before after : List ℕ) → Type 0
+AddedByPasses x k m n before after =
     let kept = seed (now_in x before) (stay_in x before) (greatest x.operator) k m in
     AddedTo n (λ i. pass (now_in x before) (stay_in x before) kept i (length before - i)) before after
 
